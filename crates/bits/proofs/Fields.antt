@@ -1,0 +1,149 @@
+-- The laws of taking and putting a field, for whoever goes by these definitions. Assumes nothing.
+use mathlib.Core.Path.{_≡_, refl, sym, ap, _∙_, subst}
+use mathlib.Core.List.{List, _++_}
+use mathlib.Core.Bool.{Bool, true, false, _&&_}
+use Prim.Native.Nat.{ℕ, _+_, _-_, _*_, _^_, _≤_, _<_}
+use native.Mathlib.Omega.{arith}
+use borrow.Author.Tests.{leb-true, le-leb, lt-leb}
+use lib.Dec.{leb, ltb}
+use lib.ListN.{length, take, drop, length-append, length-drop}
+use lib.Seq.{take-at, drop-at, length-take-le}
+use Rattle.bits.specs.Bits.{digits, valueOf, bitsOf, bytesOf, Below}
+use Rattle.bits.specs.Take.{inside, fieldBits, takenIf, takeAt}
+use Rattle.bits.specs.Put.{over, putAt, Put}
+use Rattle.bits.specs.declared.Cursor.{Cursor}
+use Rattle.bits.specs.declared.Taken.the-variants.{Field, Short}
+use Rattle.bits.proofs.Digits.{length-digits, below-digits, valueOf-lt, valueOf-digits}
+use Rattle.bits.proofs.Bytes.{below-append, below-take, below-drop, below-bitsOf, length-bitsOf, bytesOf-bitsOf, bitsOf-bytesOf-whole}
+
+-- ---- the bits of a field
+
+pub length-fieldBits : (s : List ℕ) (w at : ℕ) → at + w ≤ 8 * length s → length (fieldBits s w at) ≡ w
+length-fieldBits s w at h = length-take-le w (drop at (bitsOf s)) (rw (length-drop, length-bitsOf) (omega arith))
+
+pub below-fieldBits : (s : List ℕ) (w at : ℕ) → Below 2 (fieldBits s w at)
+below-fieldBits s w at = below-take 2 w (drop at (bitsOf s)) (below-drop 2 at (bitsOf s) (below-bitsOf s))
+
+-- a field of w bits holds a number of w bits
+pub field-lt : (s : List ℕ) (w at : ℕ) → at + w ≤ 8 * length s → valueOf (fieldBits s w at) < 2 ^ w
+field-lt s w at h =
+    subst (λ (n : ℕ). valueOf (fieldBits s w at) < 2 ^ n) (length-fieldBits s w at h)
+    (valueOf-lt (fieldBits s w at) (below-fieldBits s w at))
+
+-- ---- taking
+
+-- what a field that was taken is
+pub record IsField (s : List ℕ) (n width at v next : ℕ) : Type 0 where
+  pub narrow : width ≤ 64
+  pub within : at + width ≤ n
+  pub room : n ≤ 8 * length s
+  pub value : v ≡ valueOf (fieldBits s width at)
+  pub small : v < 2 ^ width
+  pub past : next ≡ at + width
+
+module _ (s : List ℕ) (n width at : ℕ) where
+  by-tests : (v : ℕ) (c : Cursor) (p q r : Bool) → leb width 64 ≡ p → leb (at + width) n ≡ q → leb n (8 * length s) ≡ r
+      → takenIf (p && q && r) (Field (valueOf (fieldBits s width at)) (record { at = at + width })) ≡ Field v c
+      → IsField s n width at v (c .at)
+  by-tests v c true true true hp hq hr e =
+      let ev : valueOf (fieldBits s width at) ≡ v = cc in
+      let ec : _≡_ {A = Cursor} (record { at = at + width }) c = cc in
+      let w = leb-true (at + width) n hq in
+      let l = leb-true n (8 * length s) hr in
+      record {
+        narrow = leb-true width 64 hp;
+        within = w;
+        room = l;
+        value = sym ev;
+        small = rw (← ev) (field-lt s width at (omega arith));
+        past = sym (ap (λ (x : Cursor). x .at) ec);
+      }
+  by-tests v c true true false hp hq hr e = let z : _≡_ {A = ℕ} 0 1 = cc in absurd (omega arith)
+  by-tests v c true false r hp hq hr e = let z : _≡_ {A = ℕ} 0 1 = cc in absurd (omega arith)
+  by-tests v c false q r hp hq hr e = let z : _≡_ {A = ℕ} 0 1 = cc in absurd (omega arith)
+
+  pub taken : (v : ℕ) (c : Cursor) → takeAt s n width at ≡ Field v c → IsField s n width at v (c .at)
+  unfolding takeAt
+  taken v c e = by-tests v c (leb width 64) (leb (at + width) n) (leb n (8 * length s)) refl refl refl e
+
+  -- a whole field is taken
+  pub take-whole : width ≤ 64 → at + width ≤ n → n ≤ 8 * length s
+      → takeAt s n width at ≡ Field (valueOf (fieldBits s width at)) (record { at = at + width })
+  unfolding takeAt
+  take-whole w h l = simp (le-leb width 64 w, le-leb (at + width) n h, le-leb n (8 * length s) l)
+
+  -- one that is too wide, that ends past n, or whose n the bytes do not hold, is not
+  pub take-wide : 64 < width → takeAt s n width at ≡ Short
+  unfolding takeAt
+  take-wide h = simp (lt-leb width 64 h)
+
+  pub take-past : width ≤ 64 → n < at + width → takeAt s n width at ≡ Short
+  unfolding takeAt
+  take-past w h = simp (le-leb width 64 w, lt-leb (at + width) n h)
+
+  pub take-roomless : width ≤ 64 → at + width ≤ n → 8 * length s < n → takeAt s n width at ≡ Short
+  unfolding takeAt
+  take-roomless w h l = simp (le-leb width 64 w, le-leb (at + width) n h, lt-leb n (8 * length s) l)
+
+-- ---- putting
+
+module _ (bs : List ℕ) (at width value : ℕ) (h : at + width ≤ length bs) where
+  pub length-over : length (over bs at width value) ≡ length bs
+  unfolding over
+  length-over = simp (length-append, length-digits, length-drop, length-take-le at bs (omega arith)) (omega arith)
+
+  pub below-over : Below 2 bs → Below 2 (over bs at width value)
+  unfolding over
+  below-over b =
+      below-append 2 (take at bs) (digits width value ++ drop (at + width) bs) (below-take 2 at bs b)
+      (below-append 2 (digits width value) (drop (at + width) bs) (below-digits width value) (below-drop 2 (at + width) bs b))
+
+  -- the number in the bits that a field was written over is the value written
+  pub read-over : value < 2 ^ width → valueOf (take width (drop at (over bs at width value))) ≡ value
+  unfolding over
+  read-over small =
+      rw (
+        drop-at (take at bs) (digits width value ++ drop (at + width) bs) at (length-take-le at bs (omega arith)),
+        take-at (digits width value) (drop (at + width) bs) width (length-digits width value),
+      )
+      (valueOf-digits width value small)
+
+module _ (s : List ℕ) (at width value : ℕ) where
+  -- the promise of `put`, by the tests that it makes: too wide, past the end, too large, and else written
+  pub put-wide : 64 < width → Put s at width value false s
+  unfolding putAt
+  put-wide w = record { answer = simp (lt-leb width 64 w); contents = simp (lt-leb width 64 w) }
+
+  pub put-past : width ≤ 64 → 8 * length s < at + width → Put s at width value false s
+  unfolding putAt
+  put-past w h = record {
+    answer = simp (le-leb width 64 w, lt-leb (at + width) (8 * length s) h);
+    contents = simp (le-leb width 64 w, lt-leb (at + width) (8 * length s) h);
+  }
+
+  pub put-large : width ≤ 64 → at + width ≤ 8 * length s → ltb value (2 ^ width) ≡ false → Put s at width value false s
+  unfolding putAt
+  put-large w h l = record {
+    answer = simp (le-leb width 64 w, le-leb (at + width) (8 * length s) h, l);
+    contents = simp (le-leb width 64 w, le-leb (at + width) (8 * length s) h, l);
+  }
+
+  module _ (w : width ≤ 64) (h : at + width ≤ 8 * length s) (small : ltb value (2 ^ width) ≡ true) where
+    pub put-writes : putAt s at width value ≡ bytesOf (over (bitsOf s) at width value)
+    unfolding putAt
+    put-writes = simp (le-leb width 64 w, le-leb (at + width) (8 * length s) h, small)
+
+    pub put-whole : (t : List ℕ) → Below 256 t → bitsOf t ≡ over (bitsOf s) at width value → Put s at width value true t
+    put-whole t b e = record {
+      answer = simp (le-leb width 64 w, le-leb (at + width) (8 * length s) h, small);
+      contents = sym (bytesOf-bitsOf t b) ∙ ap bytesOf e ∙ sym put-writes;
+    }
+
+    -- the bits of what is then lent
+    pub bitsOf-putAt : bitsOf (putAt s at width value) ≡ over (bitsOf s) at width value
+    bitsOf-putAt =
+        let inside : at + width ≤ length (bitsOf s) = rw (length-bitsOf s) h in
+        ap bitsOf put-writes
+        ∙ bitsOf-bytesOf-whole (over (bitsOf s) at width value) (length s)
+        (length-over (bitsOf s) at width value inside ∙ length-bitsOf s)
+        (below-over (bitsOf s) at width value inside (below-bitsOf s))

@@ -1,0 +1,6 @@
+-- The laws of bits: those of numbers and their digits, of bytes, of fields, and what the code's loops stand on.
+pub mod Digits
+pub mod Bytes
+pub mod Fields
+pub mod Once
+mod Loops

@@ -1,0 +1,39 @@
+-- `bits::splice` meets its contract: shifts and masks put three parts of a byte together. Assumes nothing.
+use native.Mathlib.Omega.{arith}
+use borrow.Author.Needs.{needs}
+use lib.Pow.{pow-pos}
+use Rattle.bits.proofs.Loops.{one-shl, splice-is, splice-lt}
+use Rattle.bits.proofs.splice.Statement.{statement}
+use Rattle.bits.proofs.splice.Tie as tie
+
+add-top : tie.Need-add-top
+add-top c = search needs
+
+shr-top : tie.Need-shr-top
+shr-top c = search needs
+
+shl-top : tie.Need-shl-top
+shl-top c = search needs
+
+shl-result : tie.Need-shl-result
+shl-result c = search needs
+
+shl-result-2 : tie.Need-shl-result-2
+shl-result-2 c = search needs
+
+sub-result : tie.Need-sub-result
+sub-result c = rw (one-shl (c .args .low) (omega arith)) (pow-pos (c .args .low))
+
+cast-result : tie.Need-cast-result
+cast-result c =
+    rw (splice-is (c .args .b) (c .args .x) (c .args .t) (c .args .low) (omega arith) (c .pre .0) (c .pre .1)) (
+    record { fits = splice-lt (c .args .b) (c .args .x) (c .args .t) (c .args .low) (omega arith) (c .pre .0) (c .pre .1) }
+    )
+
+returns : tie.Need-returns
+returns c = splice-is (c .args .b) (c .args .x) (c .args .t) (c .args .low) (omega arith) (c .pre .0) (c .pre .1)
+
+pub splice-spec : {M : Type 1} → statement M
+splice-spec =
+    tie.close
+    (tie.spec add-top shr-top shl-top shl-result shl-result-2 sub-result cast-result returns)

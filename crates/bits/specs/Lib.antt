@@ -1,0 +1,5 @@
+-- What a reader of this crate's promises must believe, in reading order.
+pub mod Bits
+pub mod Take
+pub mod Put
+pub mod Examples
