@@ -1,0 +1,6 @@
+-- Document 01 as definitions, in reading order.
+pub mod Fields
+pub mod Packets
+pub mod Refusals
+pub mod Rules
+pub mod Telegrams

@@ -1,0 +1,237 @@
+-- Document 01, "Refusal numbers" and "Allowed values": which field is due, which rule its value breaks, and what is due after it.
+-- Reading, writing and normalising all go by `step`. Definitions alone.
+use Prim.Native.Nat.{ℕ, zero, suc, _+_, _-_, _/_, _%_, _^_}
+use mathlib.Core.Bool.{Bool, true, false, cond, not, _&&_, _||_}
+use mathlib.Core.List.{List, [], _∷_}
+use mathlib.Core.Option.{Option, some, none}
+use lib.Dec.{eqb, leb}
+use Rattle.format.specs.Fields.{Field, Rule, Sense, steers, NID-PACKET, NID-XUSER, END}
+use Rattle.format.specs.Fields.Rule.{any, packet, user, direction, size, pig, total, radio, within}
+use Rattle.format.specs.Fields.Sense.{plain, scale, distance, textLength}
+use Rattle.format.specs.Packets.{Items, _⧺_, times, header, etcs, ctcs, find}
+use Rattle.format.specs.Packets.Items.{end, nest, send, sendIf, sendEither, sendTimes}
+use Rattle.format.specs.declared.Kind.{Kind}
+use Rattle.format.specs.declared.Kind.the-variants.{Header, Unknown, Value, Length, Direction, Repeated}
+
+-- ---- where a telegram stands
+
+pub data Level : Type 0 where
+  inHeader inPacket inUser : Level
+
+-- a packet that came before: its NID_PACKET and Q_DIR
+pub record Earlier : Type 0 where
+  pub id : ℕ
+  pub dir : ℕ
+
+-- what the rules still need of the fields that were sent
+pub record Context : Type 0 where
+  pub level : Level
+  -- the outermost packet in hand, or the next one: where it begins, its NID_PACKET, Q_DIR and L_PACKET
+  pub start : ℕ
+  pub id : ℕ
+  pub dir : ℕ
+  pub long : ℕ
+  -- the CTCS packet inside it: where it begins and its L_PACKET
+  pub userStart : ℕ
+  pub userLong : ℕ
+  pub pig : ℕ
+  -- every packet whose Q_DIR was sent, the latest first
+  pub earlier : List Earlier
+
+abbrev pub context : Level → ℕ → ℕ → ℕ → ℕ → ℕ → ℕ → ℕ → List Earlier → Context
+context l s i d n us un p e =
+    record { level = l; start = s; id = i; dir = d; long = n; userStart = us; userLong = un; pig = p; earlier = e }
+
+-- the bit where the next field begins, what is to be sent, and the context
+pub record State : Type 0 where
+  pub at : ℕ
+  pub todo : Items
+  pub context : Context
+
+unfoldable pub begun : State
+begun = record { at = 0; todo = header; context = context inHeader 0 0 0 0 0 0 0 [] }
+
+-- ---- what is due
+
+-- the field that is due; where nothing is left to send, the next packet or the end mark is
+abbrev pub due : Items → Field
+due end = NID-PACKET
+due nest = NID-XUSER
+due (send f r) = f
+due (sendIf c f r) = steers c
+due (sendEither c a b) = steers c
+due (sendTimes c g r) = steers c
+
+abbrev pub field : State → Field
+field s = due (s .todo)
+
+-- the bit where it ends
+abbrev pub past : State → ℕ
+past s = s .at + field s .width
+
+-- the name under which its value is sent: "255: the end mark"
+abbrev pub named : Items → ℕ → Field
+named end v = cond (eqb v 255) END NID-PACKET
+named nest v = NID-XUSER
+named (send f r) v = f
+named (sendIf c f r) v = steers c
+named (sendEither c a b) v = steers c
+named (sendTimes c g r) v = steers c
+
+abbrev pub orEnd : Option Items → Items
+orEnd none = end
+orEnd (some t) = t
+
+-- what is to be sent after its value; none after the end mark
+unfoldable pub next : Items → ℕ → Option Items
+next end v = find v etcs
+next nest v = some (orEnd (find v ctcs))
+next (send f r) v = some r
+next (sendIf c f r) v = some (cond (eqb v 1) (send f r) r)
+next (sendEither c a b) v = some (cond (eqb v 1) a b)
+next (sendTimes c g r) v = some (times v g r)
+
+-- ---- which rule a value breaks
+
+-- What is decided apart from the rest and may change: the place that a refusal gives, for its kind, where the field began and the
+-- value that it holds (0 where there is none), and whether a packet collides with an earlier one, for the Q_DIR that it holds.
+pub record Terms : Type 0 where
+  pub placeOf : Kind → State → ℕ → ℕ
+  pub collides : Context → ℕ → Bool
+
+abbrev pub known : Option Items → Bool
+known none = false
+known (some t) = true
+
+-- "none or more digits 0..9, then only F": the k lowest places of v, after an F or not
+unfoldable pub radioFrom : ℕ → Bool → ℕ → Bool
+radioFrom zero full v = true
+radioFrom (suc k) full v =
+    let d = v / 16 ^ k % 16 in (eqb d 15 || leb d 9 && not full) && radioFrom k (full || eqb d 15) v
+
+abbrev pub ruleOf : Sense → Rule
+ruleOf (plain r) = r
+-- "Q_DIR, Q_SCALE, .. 0..2"
+ruleOf scale = within 0 2
+ruleOf distance = any
+ruleOf textLength = any
+
+abbrev pub unless : Bool → Kind → Option Kind
+unless true k = none
+unless false k = some k
+
+-- "4: a header rule is broken", "7: a field holds a value not allowed below"
+abbrev pub forbidden : Level → Kind
+forbidden inHeader = Header
+forbidden inPacket = Value
+forbidden inUser = Value
+
+-- "9: a CTCS packet's Q_DIR differs from that of its ETCS-44", "10: a second packet .."
+unfoldable pub misdirected : Terms → Context → Level → ℕ → Option Kind
+misdirected p c inHeader v = none
+misdirected p c inPacket v = unless (not (p .collides c v)) Repeated
+misdirected p c inUser v = unless (eqb v (c .dir)) Direction
+
+-- "then 4, 6 or 7, then 9 (inner Q_DIR) or 10 (outer Q_DIR)"
+unfoldable pub broken : Terms → Context → Rule → ℕ → Option Kind
+broken p c any v = none
+broken p c packet v = unless (eqb v 255 || known (find v etcs)) Unknown
+broken p c user v = unless (known (find v ctcs)) Unknown
+broken p c direction v = cond (leb v 2) (misdirected p c (c .level) v) (some Value)
+broken p c size v = none
+broken p c pig v = none
+broken p c total v = unless (leb (c .pig) v) Header
+broken p c radio v = unless (radioFrom 16 false v) Value
+broken p c (within a b) v = unless (leb a v && leb v b) (forbidden (c .level))
+
+-- ---- what the value leaves for later rules
+
+-- "8: L_PACKET" counts from the identifier: the packet began where its NID_PACKET did, the CTCS packet where its NID_XUSER did
+unfoldable pub noted : Rule → Context → ℕ → ℕ → Context
+noted any c at v = c
+noted packet c at v = context inPacket (c .start) v 0 0 0 0 (c .pig) (c .earlier)
+noted user c at v = context inUser (c .start) (c .id) (c .dir) (c .long) at 0 (c .pig) (c .earlier)
+noted direction c at v = directed (c .level)
+  where
+    directed : Level → Context
+    directed inHeader = c
+    directed inPacket = context inPacket (c .start) (c .id) v (c .long) (c .userStart) (c .userLong) (c .pig) (record { id = c .id; dir = v } ∷ c .earlier)
+    directed inUser = c
+noted size c at v = measured (c .level)
+  where
+    measured : Level → Context
+    measured inHeader = c
+    measured inPacket = context inPacket (c .start) (c .id) (c .dir) v (c .userStart) (c .userLong) (c .pig) (c .earlier)
+    measured inUser = context inUser (c .start) (c .id) (c .dir) (c .long) (c .userStart) v (c .pig) (c .earlier)
+noted pig c at v = context (c .level) (c .start) (c .id) (c .dir) (c .long) (c .userStart) (c .userLong) v (c .earlier)
+noted total c at v = c
+noted radio c at v = c
+noted (within a b) c at v = c
+
+-- ---- a packet's end
+
+-- "8 is tested after a packet's last field, the inner packet before its ETCS-44": every packet that ends here is as long as it says
+unfoldable pub closes : ℕ → Context → Level → Bool
+closes at c inHeader = true
+closes at c inPacket = eqb (at - c .start) (c .long)
+closes at c inUser = eqb (at - c .userStart) (c .userLong) && eqb (at - c .start) (c .long)
+
+-- before the next packet, or the end mark
+abbrev pub fresh : ℕ → Context → Context
+fresh at c = context inPacket at 0 0 0 0 0 (c .pig) (c .earlier)
+
+-- ---- one field
+
+-- What a value leads to: on with these items, the end mark passed, or the kind of rule that it breaks.
+pub data Next : Type 0 where
+  go : Items → Context → Next
+  over : Next
+  breaks : Kind → Next
+
+unfoldable pub settled : ℕ → Items → Context → Next
+settled at end c = cond (closes at c (c .level)) (go end (fresh at c)) (breaks Length)
+settled at nest c = go nest c
+settled at (send f r) c = go (send f r) c
+settled at (sendIf s f r) c = go (sendIf s f r) c
+settled at (sendEither s a b) c = go (sendEither s a b) c
+settled at (sendTimes s g r) c = go (sendTimes s g r) c
+
+unfoldable pub onward : ℕ → Option Items → Context → Next
+onward at none c = over
+onward at (some t) c = settled at t c
+
+abbrev pub verdict : Option Kind → Next → Next
+verdict none n = n
+verdict (some k) n = breaks k
+
+-- the value breaks a rule; or it is noted, and after a packet's last field its length is tested
+unfoldable pub step : Terms → State → ℕ → Next
+step p s v =
+    let r = ruleOf (field s .sense) in
+    verdict (broken p (s .context) r v) (onward (past s) (next (s .todo) v) (noted r (s .context) (s .at) v))
+
+abbrev pub moved : State → Items → Context → State
+moved s t c = record { at = past s; todo = t; context = c }
+
+-- ---- document 01's own terms
+
+abbrev pub at : {A : Type 0} → Level → A → A → A → A
+at inHeader a b c = a
+at inPacket a b c = b
+at inUser a b c = c
+
+-- "The place is 0 for .. the header, otherwise the bit where the outermost packet (or end mark) in hand begins or would begin; for
+-- 11, where the end mark begins"
+unfoldable pub packetPlace : Kind → State → ℕ → ℕ
+packetPlace k s v = at (s .context .level) 0 (s .context .start) (s .context .start)
+
+unfoldable pub among : ℕ → ℕ → List Earlier → Bool
+among i d [] = false
+among i d (e ∷ es) = eqb i (e .id) && eqb d (e .dir) || among i d es
+
+-- "10: a second packet, other than ETCS-44, has the NID_PACKET and Q_DIR of an earlier one"
+unfoldable pub sameAsEarlier : Context → ℕ → Bool
+sameAsEarlier c v = not (eqb (c .id) 44) && among (c .id) v (c .earlier)
+
+abbrev pub paper : Terms
+paper = record { placeOf = packetPlace; collides = sameAsEarlier }
