@@ -4,3 +4,5 @@ pub mod Packets
 pub mod Refusals
 pub mod Rules
 pub mod Telegrams
+pub mod Table
+pub mod Kinds

@@ -146,14 +146,14 @@ abbrev packet : ℕ → Items → Packet
 packet i t = record { id = i; items = t }
 
 unfoldable pub etcs : List Packet
-unfolding listed headA headB linking gradient speed level session national conditional track text position transition shunting sight default
+unfolding listed headA headB linking gradient speed level session national conditional track text position transition shunting sight default _⧺_
 etcs =
     packet 5 linking ∷ packet 21 gradient ∷ packet 27 speed ∷ packet 41 level ∷ packet 42 session ∷ packet 44 national ∷ packet 46 conditional
     ∷ packet 68 track ∷ packet 72 text ∷ packet 79 position ∷ packet 131 transition ∷ packet 132 shunting ∷ packet 137 sight
     ∷ packet 254 default ∷ []
 
 unfoldable pub ctcs : List Packet
-unfolding listed headA headB circuits restriction reversing turnout stopping
+unfolding listed headA headB circuits restriction reversing turnout stopping _⧺_
 ctcs = packet 1 circuits ∷ packet 2 restriction ∷ packet 3 reversing ∷ packet 4 turnout ∷ packet 5 stopping ∷ []
 
 -- the packet with an identifier, if there is one

@@ -1,5 +1,8 @@
 // The refusals of document 01, the answers that carry them, and the kinds of packets.
 
+pub mod packets;
+pub mod table;
+
 // The kinds of refusal; `numberOf` in specs/Refusals.antt gives document 01's number of each.
 pub enum Kind {
     Room,

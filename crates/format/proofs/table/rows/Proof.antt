@@ -1,0 +1,15 @@
+-- `format::table::rows` meets its contract: the checker computes the words of the rows that the items give. Assumes nothing.
+use mathlib.Core.Path.{refl}
+use Rattle.format.specs.Table.{words}
+use Rattle.format.proofs.table.rows.Statement.{statement}
+use Rattle.format.proofs.table.rows.Tie as tie
+use Rattle.format.proofs.table.rows.Reads as reads
+use Rattle.format.proofs.table.rows.Lts as lts
+
+-- src/table.rt:223:1
+returns : tie.Need-returns
+unfolding words
+returns c = refl
+
+pub rows-spec : {M : Type 1} → statement M
+rows-spec = tie.close (tie.spec returns)
