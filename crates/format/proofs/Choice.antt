@@ -1,10 +1,9 @@
 -- An identifier that is none of the tables' has no packet, no row and no head. Assumes nothing.
-use mathlib.Core.Path.{_≡_, refl, sym, ap₂, _∙_}
+use mathlib.Core.Path.{_≡_, refl, sym, ap₂}
 use mathlib.Core.List.{List, [], _∷_}
 use mathlib.Core.Option.{none}
 use Prim.Native.Nat.{ℕ, _+_}
 use borrow.Author.Tests.{ne-eqb}
-use lib.Dec.{eqb}
 use lib.ListN.{length}
 use Rattle.format.specs.Packets.{Packet, find, etcs, ctcs}
 use Rattle.format.specs.Table.{rowsOf, startOf, packetStarts, etcsRow, ctcsRow, etcsFrom, ctcsFrom}

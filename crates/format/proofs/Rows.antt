@@ -4,13 +4,13 @@ use mathlib.Core.Path.{_≡_, refl, _∙_, subst, sym, ap}
 use mathlib.Core.Bool.{Bool, true, false, cond, _&&_}
 use mathlib.Core.List.{List, [], _∷_, map}
 use mathlib.Core.Option.{Option, some, none}
-use Prim.Native.Nat.{ℕ, zero, suc, _+_, _-_, _*_, _/_, _%_, _^_, _<_, _≤_}
+use Prim.Native.Nat.{ℕ, zero, suc, _+_, _-_, _/_, _%_, _<_}
 use native.Mathlib.Nat.{add-zero, zero-add, add-suc, suc-add, le-of-suc-le-suc, not-suc-le-zero}
 use native.Mathlib.Omega.{arith}
-use borrow.Author.Tests.{eq-eqb, lt-ltb, eqb-true, ltb-true}
+use borrow.Author.Tests.{eq-eqb, lt-ltb}
 use lib.Dec.{T, eqb, eqb→eq, ltb, ltb→lt}
 use lib.ListN.{length, getD}
-use Rattle.format.specs.Fields.{Field, NID-PACKET}
+use Rattle.format.specs.Fields.{NID-PACKET}
 use Rattle.format.specs.Packets.{Items, Packet, header, etcs, ctcs, find}
 use Rattle.format.specs.Packets.Items.{end, nest, send, sendIf, sendEither, sendTimes}
 use Rattle.format.specs.Table.{Row, row, rows, rowAt, act, fieldAt, jump, up, switchOf, shape, nodesFrom, node, Start, startOf, packetStarts, etcsFrom, ctcsFrom, etcsRow, ctcsRow, codeOf, lowOf, highOf, words}

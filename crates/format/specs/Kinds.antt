@@ -1,9 +1,9 @@
 -- Document 01: "Each kind of packet keeps its identifier and fixed widths with the kind". What the kinds' choice answers. Definitions alone.
-use Prim.Native.Nat.{ℕ, _+_}
 use mathlib.Core.Bool.{cond, _||_}
 use mathlib.Core.List.{List, [], _∷_}
+use Prim.Native.Nat.{ℕ, _+_}
 use lib.Dec.{eqb}
-use Rattle.format.specs.Fields.{Field, Q-DIR, L-PACKET, Q-SCALE}
+use Rattle.format.specs.Fields.{Q-DIR, L-PACKET, Q-SCALE}
 use Rattle.format.specs.Packets.{Items, Packet, etcs, ctcs}
 use Rattle.format.specs.Packets.Items.{end, nest, send, sendIf, sendEither, sendTimes}
 use Rattle.format.specs.Table.{etcsRow, ctcsRow}

@@ -1,14 +1,14 @@
 -- Document 01, "Refusal numbers" and "Allowed values": which field is due, which rule its value breaks, and what is due after it.
 -- Reading, writing and normalising all go by `step`. Definitions alone.
-use Prim.Native.Nat.{ℕ, zero, suc, _+_, _-_, _/_, _%_, _^_}
 use mathlib.Core.Bool.{Bool, true, false, cond, not, _&&_, _||_}
 use mathlib.Core.List.{List, [], _∷_}
 use mathlib.Core.Option.{Option, some, none}
+use Prim.Native.Nat.{ℕ, zero, suc, _+_, _-_, _/_, _%_, _^_}
 use lib.Dec.{eqb, leb}
 use Rattle.format.specs.Fields.{Field, Rule, Sense, steers, NID-PACKET, NID-XUSER, END}
 use Rattle.format.specs.Fields.Rule.{any, packet, user, direction, size, pig, total, radio, within}
 use Rattle.format.specs.Fields.Sense.{plain, scale, distance, textLength}
-use Rattle.format.specs.Packets.{Items, _⧺_, times, header, etcs, ctcs, find}
+use Rattle.format.specs.Packets.{Items, times, header, etcs, ctcs, find}
 use Rattle.format.specs.Packets.Items.{end, nest, send, sendIf, sendEither, sendTimes}
 use Rattle.format.specs.declared.Kind.{Kind}
 use Rattle.format.specs.declared.Kind.the-variants.{Header, Unknown, Value, Length, Direction, Repeated}

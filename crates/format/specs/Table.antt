@@ -1,8 +1,8 @@
 -- The packets as rows of a table, which the machine of the code goes by. The rows are made here from the items, and nothing of them has
 -- to be believed: proofs/Table.antt has the checker compute that they say what the items say. Definitions alone.
-use Prim.Native.Nat.{ℕ, zero, suc, _+_, _-_, _*_, _^_}
 use mathlib.Core.Bool.{cond}
 use mathlib.Core.List.{List, [], _∷_, _++_, map}
+use Prim.Native.Nat.{ℕ, zero, suc, _+_, _-_, _*_, _^_}
 use lib.Dec.{eqb}
 use lib.ListN.{length, getD}
 use Rattle.format.specs.Fields.{Field, Rule, Sense, Switch, steers, NID-PACKET, NID-XUSER}

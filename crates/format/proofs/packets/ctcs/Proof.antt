@@ -1,19 +1,12 @@
 -- `format::packets::ctcs` meets its contract: at each identifier the checker computes where the packet begins, and any other has none.
 -- Assumes nothing.
 use mathlib.Core.Path.{sym, ap, _∙_}
+use borrow.Author.Needs.{needs}
 use Rattle.format.specs.Packets.{ctcs}
 use Rattle.format.specs.Kinds.{ctcsStart}
 use Rattle.format.proofs.Choice.{ctcs-none}
-use borrow.Author.Needs.{needs}
 use Rattle.format.proofs.packets.ctcs.Statement.{statement}
 use Rattle.format.proofs.packets.ctcs.Tie as tie
-use Rattle.format.proofs.packets.ctcs.Reads as reads
-use Rattle.format.proofs.packets.ctcs.Lts as lts
-use Rattle.format.proofs.packets.Circuits.new.Reads as packets-Circuits-new-reads
-use Rattle.format.proofs.packets.Restriction.new.Reads as packets-Restriction-new-reads
-use Rattle.format.proofs.packets.Reversing.new.Reads as packets-Reversing-new-reads
-use Rattle.format.proofs.packets.Stopping.new.Reads as packets-Stopping-new-reads
-use Rattle.format.proofs.packets.Turnout.new.Reads as packets-Turnout-new-reads
 
 -- src/packets.rt:39:25
 new-requires : tie.Need-new-requires

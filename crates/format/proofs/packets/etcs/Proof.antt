@@ -1,28 +1,12 @@
 -- `format::packets::etcs` meets its contract: at each identifier the checker computes where the packet begins, and any other has none.
 -- Assumes nothing.
 use mathlib.Core.Path.{sym, ap, _∙_}
+use borrow.Author.Needs.{needs}
 use Rattle.format.specs.Packets.{etcs}
 use Rattle.format.specs.Kinds.{etcsStart}
 use Rattle.format.proofs.Choice.{etcs-none}
-use borrow.Author.Needs.{needs}
 use Rattle.format.proofs.packets.etcs.Statement.{statement}
 use Rattle.format.proofs.packets.etcs.Tie as tie
-use Rattle.format.proofs.packets.etcs.Reads as reads
-use Rattle.format.proofs.packets.etcs.Lts as lts
-use Rattle.format.proofs.packets.Conditional.new.Reads as packets-Conditional-new-reads
-use Rattle.format.proofs.packets.Default.new.Reads as packets-Default-new-reads
-use Rattle.format.proofs.packets.Gradient.new.Reads as packets-Gradient-new-reads
-use Rattle.format.proofs.packets.Level.new.Reads as packets-Level-new-reads
-use Rattle.format.proofs.packets.Linking.new.Reads as packets-Linking-new-reads
-use Rattle.format.proofs.packets.National.new.Reads as packets-National-new-reads
-use Rattle.format.proofs.packets.Position.new.Reads as packets-Position-new-reads
-use Rattle.format.proofs.packets.Session.new.Reads as packets-Session-new-reads
-use Rattle.format.proofs.packets.Shunting.new.Reads as packets-Shunting-new-reads
-use Rattle.format.proofs.packets.Sight.new.Reads as packets-Sight-new-reads
-use Rattle.format.proofs.packets.Speed.new.Reads as packets-Speed-new-reads
-use Rattle.format.proofs.packets.Text.new.Reads as packets-Text-new-reads
-use Rattle.format.proofs.packets.Track.new.Reads as packets-Track-new-reads
-use Rattle.format.proofs.packets.Transition.new.Reads as packets-Transition-new-reads
 
 -- src/packets.rt:16:24
 new-requires : tie.Need-new-requires

@@ -3,8 +3,6 @@ use mathlib.Core.Path.{refl}
 use Rattle.format.specs.Table.{words}
 use Rattle.format.proofs.table.rows.Statement.{statement}
 use Rattle.format.proofs.table.rows.Tie as tie
-use Rattle.format.proofs.table.rows.Reads as reads
-use Rattle.format.proofs.table.rows.Lts as lts
 
 -- src/table.rt:223:1
 returns : tie.Need-returns

@@ -1,0 +1,10 @@
+-- The laws of telegrams, in reading order.
+pub mod Sources
+pub mod Round
+pub mod Demand2
+pub mod Turns
+pub mod Place
+pub mod Refused
+pub mod Steps
+pub mod Tile
+pub mod Prefix

@@ -1,0 +1,2 @@
+// The laws of telegrams: theorems over the definitions of `format`, for any terms and, where it can be, any source.
+// There is no code here; the theorems are in proofs/, and the code's proofs stand on them.

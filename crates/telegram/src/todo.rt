@@ -1,0 +1,124 @@
+// What is still to be sent of a packet, and what is after a value.
+ghost use mathlib.Core.Path.{_≡_};
+ghost use Prim.Native.Nat.{_<_};
+ghost use Rattle.format.specs.Table.{act};
+ghost use Rattle.telegram.specs.Machine.{InTable, Tidy, Followed, Moved, Turned, Advanced};
+use crate::rows::END;
+use crate::rows::NEST;
+use crate::rows::SEND;
+use crate::rows::TIMES;
+use crate::rows::act;
+use crate::rows::jump;
+use format::packets;
+
+// What is to be sent: the items of row node; at the end of their group, the group left times more; and at the end of the group
+// around that, that group outer times more.
+pub struct Todo {
+    pub node: usize,
+    pub left: u64,
+    pub outer: u64,
+}
+
+// What is to be sent after a value, or that it is the end mark.
+pub enum Ahead {
+    On(Todo),
+    Mark,
+}
+
+// The row after a field that repeats nothing.
+fn follow(rows: &[u32; 213], k: usize, v: u64) -> usize
+    requires { ⌜ InTable (now rows) k × (1 < act k) × (act k < 5) ⌝ }
+    ensures { λ r. ⌜ Followed k v r ⌝ }
+{
+    if act(rows, k) != SEND {
+        if v != 1 {
+            return jump(rows, k);
+        }
+    }
+    k + 1
+}
+
+// The field is passed: the next row, or the first row of the group that it repeats.
+fn moved(rows: &[u32; 213], t: Todo, v: u64) -> Todo
+    requires { ⌜ InTable (now rows) (t .node) × (1 < act (t .node)) ⌝ }
+    ensures { λ r. ⌜ Moved t v r ⌝ }
+{
+    let k = t.node;
+    if act(rows, k) != TIMES {
+        return Todo {
+            node: follow(rows, k, v),
+            left: t.left,
+            outer: t.outer,
+        };
+    }
+    if v == 0 {
+        return Todo {
+            node: jump(rows, k),
+            left: t.left,
+            outer: t.outer,
+        };
+    }
+    Todo {
+        node: k + 1,
+        left: v - 1,
+        outer: t.left,
+    }
+}
+
+// At a group's end: the group again, or what follows its last.
+fn turned(rows: &[u32; 213], t: Todo) -> Todo
+    requires { ⌜ InTable (now rows) (t .node) ⌝ }
+    ensures { λ r. ⌜ Turned t r ⌝ }
+{
+    let k = t.node;
+    if act(rows, k) != END {
+        return t;
+    }
+    let u = jump(rows, k);
+    if u == 0 {
+        return t;
+    }
+    if t.left == 0 {
+        return Todo {
+            node: jump(rows, u),
+            left: t.outer,
+            outer: 0,
+        };
+    }
+    Todo {
+        node: u + 1,
+        left: t.left - 1,
+        outer: t.outer,
+    }
+}
+
+// What is to be sent after the field that is due holds v. No group holds two others, so that two turns are enough.
+pub(crate) fn advance(rows: &[u32; 213], t: Todo, v: u64) -> Ahead
+    requires { ⌜ InTable (now rows) (t .node) × Tidy t ⌝ }
+    ensures { λ r. ⌜ Advanced t v r ⌝ }
+{
+    let k = t.node;
+    let a = act(rows, k);
+    if a == END {
+        let s = packets::etcs(v);
+        let row = s.row;
+        if row == 0 {
+            return Ahead::Mark;
+        }
+        return Ahead::On(Todo {
+            node: row,
+            left: 0,
+            outer: 0,
+        });
+    }
+    if a == NEST {
+        let s = packets::ctcs(v);
+        let row = s.row;
+        return Ahead::On(Todo {
+            node: row,
+            left: 0,
+            outer: 0,
+        });
+    }
+    Ahead::On(turned(rows, turned(rows, moved(rows, t, v))))
+}

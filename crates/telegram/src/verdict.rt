@@ -1,0 +1,163 @@
+// Which rule a value breaks at the field that is due.
+ghost use mathlib.Core.Path.{_≡_};
+ghost use mathlib.Core.Bool.{false, _&&_, _||_};
+ghost use lib.Dec.{eqb, leb};
+ghost use Rattle.format.specs.Packets.{find, etcs, ctcs};
+ghost use Rattle.format.specs.Rules.{unless, known, radioFrom};
+ghost use Rattle.format.specs.Table.{fieldAt, lowOf, highOf};
+ghost use Rattle.format.specs.declared.Kind.the-variants.{Unknown};
+ghost use Rattle.telegram.specs.Machine.{InTable, verdictOf, Ranged, Directed, Judging, Judged};
+use crate::rows::DIRECTION;
+use crate::rows::PACKET;
+use crate::rows::RADIO;
+use crate::rows::TOTAL;
+use crate::rows::USER;
+use crate::rows::code;
+use crate::rows::high;
+use crate::rows::low;
+use crate::state::Level;
+use crate::state::State;
+use format::Kind;
+use format::packets;
+
+// Whether a value keeps the rule of its field.
+pub enum Verdict {
+    Fine,
+    Broken(Kind),
+}
+
+// The kind of a value that is not allowed: a header rule's, or a field's.
+fn forbidden(l: Level) -> Verdict
+    ensures { λ r. ⌜ verdictOf r ≡ Ranged false l ⌝ }
+{
+    match l {
+        Level::Header => Verdict::Broken(Kind::Header),
+        Level::Packet => Verdict::Broken(Kind::Value),
+        Level::User => Verdict::Broken(Kind::Value),
+    }
+}
+
+// Whether a value lies in the range of its field.
+fn ranged(rows: &[u32; 213], k: usize, l: Level, v: u64) -> Verdict
+    requires { ⌜ InTable (now rows) k ⌝ }
+    ensures { λ r. ⌜ verdictOf r ≡ Ranged (leb (lowOf (fieldAt k)) v && leb v (highOf (fieldAt k))) l ⌝ }
+{
+    if v < low(rows, k) {
+        return forbidden(l);
+    }
+    if high(rows, k) < v {
+        return forbidden(l);
+    }
+    Verdict::Fine
+}
+
+// Sixteen places: digits, then only F.
+fn radio(v: u64) -> bool
+    ensures { λ r. ⌜ r ≡ radioFrom 16 false v ⌝ }
+{
+    let mut k: usize = 16;
+    let mut full = false;
+    while 0 < k {
+        k -= 1;
+        let d = (v >> (4 * k)) % 16;
+        if d == 15 {
+            full = true;
+        } else {
+            if 9 < d {
+                return false;
+            }
+            if full {
+                return false;
+            }
+        }
+    }
+    true
+}
+
+// An NID_PACKET of the tables, or the end mark.
+fn packet(v: u64) -> Verdict
+    ensures { λ r. ⌜ verdictOf r ≡ unless (eqb v 255 || known (find v etcs)) Unknown ⌝ }
+{
+    if v == 255 {
+        return Verdict::Fine;
+    }
+    let s = packets::etcs(v);
+    let row = s.row;
+    if row == 0 {
+        return Verdict::Broken(Kind::Unknown);
+    }
+    Verdict::Fine
+}
+
+// An NID_XUSER of the tables.
+fn user(v: u64) -> Verdict
+    ensures { λ r. ⌜ verdictOf r ≡ unless (known (find v ctcs)) Unknown ⌝ }
+{
+    let s = packets::ctcs(v);
+    let row = s.row;
+    if row == 0 {
+        return Verdict::Broken(Kind::Unknown);
+    }
+    Verdict::Fine
+}
+
+// A Q_DIR: 0 to 2; of a packet that collides with no earlier one; of a CTCS packet, that of its ETCS-44.
+fn direction(s: State, v: u64, twice: bool) -> Verdict
+    ensures { λ r. ⌜ Directed s v twice r ⌝ }
+{
+    if 2 < v {
+        return Verdict::Broken(Kind::Value);
+    }
+    let l = s.level;
+    match l {
+        Level::Header => Verdict::Fine,
+        Level::Packet => {
+            if twice {
+                return Verdict::Broken(Kind::Repeated);
+            }
+            Verdict::Fine
+        }
+        Level::User => {
+            if v == s.dir {
+                return Verdict::Fine;
+            }
+            Verdict::Broken(Kind::Direction)
+        }
+    }
+}
+
+// The rule that a value breaks at the field that is due. twice: whether its packet collides with an earlier one, where it is a Q_DIR.
+pub(crate) fn judge(rows: &[u32; 213], s: State, v: u64, twice: bool) -> Verdict
+    requires { ⌜ Judging (now rows) s ⌝ }
+    ensures { λ r. ⌜ Judged s v twice r ⌝ }
+{
+    let t = s.todo;
+    let k = t.node;
+    let c = code(rows, k);
+    if c < TOTAL {
+        return Verdict::Fine;
+    }
+    if c == TOTAL {
+        if v < s.pig {
+            return Verdict::Broken(Kind::Header);
+        }
+        return Verdict::Fine;
+    }
+    if c == RADIO {
+        if radio(v) {
+            return Verdict::Fine;
+        }
+        return Verdict::Broken(Kind::Value);
+    }
+    if c == PACKET {
+        return packet(v);
+    }
+    if c == USER {
+        return user(v);
+    }
+    if c == DIRECTION {
+        return direction(s, v, twice);
+    }
+    let l = s.level;
+    ranged(rows, k, l, v)
+}
