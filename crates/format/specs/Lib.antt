@@ -6,3 +6,4 @@ pub mod Rules
 pub mod Telegrams
 pub mod Table
 pub mod Kinds
+pub mod Examples

@@ -150,7 +150,7 @@ pub record Noted (s : State) (c v : ℕ) (r : State) : Type 0 where
       → let x = noted (ruleOf (senseOf c a b)) (contextOf l s) (s .at) v in x ≡ contextOf (x .earlier) r
   pub here : r .at ≡ s .at
   pub first : r .start ≡ s .start
-  pub second : r .userstart ≤ s .at
+  pub second : s .userstart ≤ s .at → r .userstart ≤ s .at
 
 -- ---- one field
 

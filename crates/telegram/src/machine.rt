@@ -68,7 +68,6 @@ fn measured(s: State, v: u64) -> State
 
 // What the rules after a field with the code c go by.
 fn noted(s: State, c: u32, v: u64) -> State
-    requires { ⌜ (c < 12) × (s .userstart ≤ s .at) ⌝ }
     ensures { λ r. ⌜ Noted s c v r ⌝ }
 {
     if c == DIRECTION {

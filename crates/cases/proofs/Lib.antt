@@ -1,0 +1,2 @@
+-- The worked telegrams, computed.
+pub mod All

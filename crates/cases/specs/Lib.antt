@@ -1,0 +1,2 @@
+-- The worked telegrams of document 01.
+pub mod Cases

@@ -1,0 +1,90 @@
+-- Worked telegrams for each rule, computed by the checker: what the definitions answer to lists of values. Assumes nothing.
+use mathlib.Core.Path.{_≡_, refl}
+use mathlib.Core.List.{List, [], _∷_, map}
+use Prim.Native.Nat.{ℕ}
+use Prim.Native.String.{String}
+use Rattle.format.specs.Packets.{_⧺_, times, header, etcs, ctcs, find}
+use Rattle.format.specs.Refusals.{numberOf}
+use Rattle.format.specs.Rules.{begun, next, misdirected, broken, noted, closes, settled, onward, step, radioFrom, packetPlace, among, sameAsEarlier, paper}
+use Rattle.format.specs.Telegrams.{Result, bits, values, names, places, bitCount, fromValues, drive, write}
+use Rattle.format.specs.Telegrams.Result.{accepted, refused}
+
+-- an answer in numbers: 0 and the bits of an accepted telegram, or the number and the place of a refusal
+abbrev said : Result → List ℕ
+said (accepted es) = 0 ∷ bitCount es ∷ []
+said (refused r) = numberOf (r .kind) ∷ r .place ∷ []
+
+unfoldable written : List ℕ → Result
+unfolding write drive begun fromValues step next find etcs ctcs header times _⧺_ broken misdirected noted settled onward closes radioFrom packetPlace sameAsEarlier among
+written vs = write paper vs
+
+-- a header, with packets or a part of one after it
+abbrev told : List ℕ → List ℕ
+told vs = said (written (1 ∷ 16 ∷ 0 ∷ 0 ∷ 1 ∷ 0 ∷ 255 ∷ 9 ∷ 3007 ∷ 1 ∷ vs))
+
+-- Q_UPDOWN, M_VERSION, Q_MEDIA, N_PIG above N_TOTAL, M_DUP; then nothing at all, and values that end in the header
+header-rules : map (λ vs. said (written vs))
+    ((0 ∷ 16 ∷ 0 ∷ 0 ∷ 1 ∷ []) ∷ (1 ∷ 17 ∷ []) ∷ (1 ∷ 16 ∷ 1 ∷ []) ∷ (1 ∷ 16 ∷ 0 ∷ 2 ∷ 1 ∷ []) ∷ (1 ∷ 16 ∷ 0 ∷ 1 ∷ 1 ∷ 3 ∷ [])
+    ∷ [] ∷ (1 ∷ 16 ∷ 0 ∷ []) ∷ [])
+    ≡ (4 ∷ 0 ∷ []) ∷ (4 ∷ 0 ∷ []) ∷ (4 ∷ 0 ∷ []) ∷ (4 ∷ 0 ∷ []) ∷ (4 ∷ 0 ∷ []) ∷ (5 ∷ 0 ∷ []) ∷ (5 ∷ 0 ∷ []) ∷ []
+unfolding written
+header-rules = refl
+
+-- the end mark alone, with a value after it, without it; ETCS-254 with a right and a wrong L_PACKET; an identifier of no table
+between-packets : map told
+    ((255 ∷ []) ∷ (255 ∷ 0 ∷ []) ∷ [] ∷ (254 ∷ 2 ∷ 23 ∷ 255 ∷ []) ∷ (254 ∷ 2 ∷ 24 ∷ 255 ∷ []) ∷ (7 ∷ []) ∷ [])
+    ≡ (0 ∷ 58 ∷ []) ∷ (11 ∷ 50 ∷ []) ∷ (5 ∷ 50 ∷ []) ∷ (0 ∷ 81 ∷ []) ∷ (8 ∷ 50 ∷ []) ∷ (6 ∷ 50 ∷ []) ∷ []
+unfolding written
+between-packets = refl
+
+-- Q_DIR 3; Q_SCALE 3; NID_STM 0, and none where the level is not 1, as the second group shows; a digit after an F
+values-allowed : map told
+    ((132 ∷ 3 ∷ []) ∷ (21 ∷ 1 ∷ 54 ∷ 3 ∷ []) ∷ (46 ∷ 1 ∷ 47 ∷ 1 ∷ 0 ∷ []) ∷ (46 ∷ 1 ∷ 42 ∷ 1 ∷ 3 ∷ 1 ∷ 0 ∷ 255 ∷ [])
+    ∷ (42 ∷ 1 ∷ 113 ∷ 0 ∷ 0 ∷ 0 ∷ 0x08614970020002FF ∷ 0 ∷ 255 ∷ []) ∷ (42 ∷ 1 ∷ 113 ∷ 0 ∷ 0 ∷ 0 ∷ 0x0861497002000FF2 ∷ []) ∷ [])
+    ≡ (7 ∷ 50 ∷ []) ∷ (7 ∷ 50 ∷ []) ∷ (7 ∷ 50 ∷ []) ∷ (0 ∷ 100 ∷ []) ∷ (0 ∷ 171 ∷ []) ∷ (7 ∷ 50 ∷ []) ∷ []
+unfolding written
+values-allowed = refl
+
+-- ETCS-44 with CTCS-5: right; an inner Q_DIR of its own; an inner length, then an outer length, that is wrong; CTCS-6
+inner-packets : map told
+    ((44 ∷ 1 ∷ 48 ∷ 5 ∷ 1 ∷ 25 ∷ 0 ∷ 255 ∷ []) ∷ (44 ∷ 1 ∷ 48 ∷ 5 ∷ 0 ∷ 25 ∷ 0 ∷ []) ∷ (44 ∷ 1 ∷ 48 ∷ 5 ∷ 1 ∷ 24 ∷ 0 ∷ [])
+    ∷ (44 ∷ 1 ∷ 57 ∷ 5 ∷ 1 ∷ 25 ∷ 0 ∷ []) ∷ (44 ∷ 1 ∷ 48 ∷ 6 ∷ []) ∷ [])
+    ≡ (0 ∷ 106 ∷ []) ∷ (9 ∷ 50 ∷ []) ∷ (8 ∷ 50 ∷ []) ∷ (8 ∷ 50 ∷ []) ∷ (6 ∷ 50 ∷ []) ∷ []
+unfolding written
+inner-packets = refl
+
+-- ETCS-132 twice with Q_DIR 1, and with 1 and 0; ETCS-44 twice with Q_DIR 1; ETCS-132 and ETCS-137 with Q_DIR 1
+collisions : map told
+    ((132 ∷ 1 ∷ 24 ∷ 0 ∷ 132 ∷ 1 ∷ []) ∷ (132 ∷ 1 ∷ 24 ∷ 0 ∷ 132 ∷ 0 ∷ 24 ∷ 0 ∷ 255 ∷ [])
+    ∷ (44 ∷ 1 ∷ 48 ∷ 5 ∷ 1 ∷ 25 ∷ 0 ∷ 44 ∷ 1 ∷ 48 ∷ 5 ∷ 1 ∷ 25 ∷ 0 ∷ 255 ∷ []) ∷ (132 ∷ 1 ∷ 24 ∷ 0 ∷ 137 ∷ 1 ∷ 24 ∷ 1 ∷ 255 ∷ []) ∷ [])
+    ≡ (10 ∷ 74 ∷ []) ∷ (0 ∷ 106 ∷ []) ∷ (0 ∷ 154 ∷ []) ∷ (0 ∷ 106 ∷ []) ∷ []
+unfolding written
+collisions = refl
+
+-- ETCS-68 both ways; a value past its width; ETCS-27 with inner lists of 0 and 2; a missing value before one that is too wide
+ways-and-lists : map told
+    ((68 ∷ 1 ∷ 41 ∷ 1 ∷ 1 ∷ 7 ∷ 255 ∷ []) ∷ (68 ∷ 1 ∷ 65 ∷ 1 ∷ 0 ∷ 7 ∷ 8 ∷ 9 ∷ 0 ∷ 255 ∷ []) ∷ (132 ∷ 4 ∷ [])
+    ∷ (27 ∷ 1 ∷ 108 ∷ 1 ∷ 7 ∷ 8 ∷ 0 ∷ 0 ∷ 1 ∷ 7 ∷ 8 ∷ 0 ∷ 2 ∷ 0 ∷ 5 ∷ 2 ∷ 6 ∷ 255 ∷ []) ∷ (132 ∷ 1 ∷ []) ∷ [])
+    ≡ (0 ∷ 99 ∷ []) ∷ (0 ∷ 123 ∷ []) ∷ (12 ∷ 50 ∷ []) ∷ (0 ∷ 166 ∷ []) ∷ (5 ∷ 50 ∷ []) ∷ []
+unfolding written
+ways-and-lists = refl
+
+-- ---- the entries of a telegram: their names and places
+
+abbrev placesOf : Result → List ℕ
+placesOf (accepted es) = places 0 es
+placesOf (refused r) = []
+
+abbrev namesOf : Result → List String
+namesOf (accepted es) = names es
+namesOf (refused r) = []
+
+end-mark-named : namesOf (written (1 ∷ 16 ∷ 0 ∷ 0 ∷ 1 ∷ 0 ∷ 255 ∷ 9 ∷ 3007 ∷ 1 ∷ 254 ∷ 2 ∷ 23 ∷ 255 ∷ []))
+    ≡ "Q_UPDOWN" ∷ "M_VERSION" ∷ "Q_MEDIA" ∷ "N_PIG" ∷ "N_TOTAL" ∷ "M_DUP" ∷ "M_MCOUNT" ∷ "NID_C" ∷ "NID_BG" ∷ "Q_LINK" ∷ "NID_PACKET" ∷ "Q_DIR" ∷ "L_PACKET" ∷ "END" ∷ []
+unfolding written
+end-mark-named = refl
+
+fields-begin : placesOf (written (1 ∷ 16 ∷ 0 ∷ 0 ∷ 1 ∷ 0 ∷ 255 ∷ 9 ∷ 3007 ∷ 1 ∷ 254 ∷ 2 ∷ 23 ∷ 255 ∷ []))
+    ≡ 0 ∷ 1 ∷ 8 ∷ 9 ∷ 12 ∷ 15 ∷ 17 ∷ 25 ∷ 35 ∷ 49 ∷ 50 ∷ 58 ∷ 60 ∷ 73 ∷ []
+unfolding written
+fields-begin = refl

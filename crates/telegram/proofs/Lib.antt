@@ -1,0 +1,2 @@
+-- What the machine's functions stand on.
+pub mod Noting
