@@ -1,7 +1,7 @@
 -- Document 01, "Worked telegrams", the proved group: one table of claims about the definitions. Definitions alone.
-use Prim.Native.Nat.{ℕ, zero, suc, _+_}
-use mathlib.Core.Bool.{Bool, true, false, _&&_}
+use mathlib.Core.Bool.{Bool, true, _&&_}
 use mathlib.Core.List.{List, [], _∷_, _++_}
+use Prim.Native.Nat.{ℕ, zero, suc, _+_}
 use lib.Dec.{eqb}
 use Rattle.format.specs.Rules.{paper}
 use Rattle.format.specs.Telegrams.{Result, bitCount, write}

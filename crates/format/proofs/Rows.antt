@@ -9,8 +9,8 @@ use native.Mathlib.Nat.{add-zero, zero-add, add-suc, suc-add, le-of-suc-le-suc, 
 use native.Mathlib.Omega.{arith}
 use borrow.Author.Tests.{eq-eqb, lt-ltb}
 use lib.Dec.{T, eqb, eqb→eq, ltb, ltb→lt}
-use lib.ListN.{length, getD}
-use Rattle.format.specs.Fields.{NID-PACKET}
+use lib.ListN.{length, getD, List·getD-map}
+use Rattle.format.specs.Fields.{Field, steers, NID-PACKET, NID-XUSER}
 use Rattle.format.specs.Packets.{Items, Packet, header, etcs, ctcs, find}
 use Rattle.format.specs.Packets.Items.{end, nest, send, sendIf, sendEither, sendTimes}
 use Rattle.format.specs.Table.{Row, row, rows, rowAt, act, fieldAt, jump, up, switchOf, shape, nodesFrom, node, Start, startOf, packetStarts, etcsFrom, ctcsFrom, etcsRow, ctcsRow, codeOf, lowOf, highOf, words}
@@ -296,3 +296,75 @@ module _ where
   pub word-jump : (k : ℕ) → k < 213 → getD words k 0 / 16777216 ≡ jump k
   unfolding words rowAt
   word-jump = word-law (λ x. x / 16777216) jump tt
+
+-- ---- a packet's first row stands in no group
+
+-- none of these starts stands in a group
+abbrev outermost : List Start → Bool
+outermost [] = true
+outermost (s ∷ ss) = eqb (up (s .row)) 0 && outermost ss
+
+module _ (v : ℕ) where
+  -- nor does the row of the identifier's packet, nor row 0 if there is none
+  start-up : (ss : List Start) → T (outermost ss) → up (startOf v ss) ≡ 0
+  unfolding startOf rowAt
+  start-up [] t = refl
+  start-up (s ∷ ss) t =
+      by-test (eqb v (s .id)) (eqb→eq (up (s .row)) 0 (and-left (eqb (up (s .row)) 0) (outermost ss) t))
+      (start-up ss (and-right (eqb (up (s .row)) 0) (outermost ss) t))
+    where
+      by-test : (b : Bool) → up (s .row) ≡ 0 → up (startOf v ss) ≡ 0 → up (cond b (s .row) (startOf v ss)) ≡ 0
+      by-test true h g = h
+      by-test false h g = g
+
+  pub etcs-up : up (etcsRow v) ≡ 0
+  unfolding etcsRow rowAt
+  etcs-up = start-up (packetStarts etcsFrom etcs) tt
+
+  pub ctcs-up : up (ctcsRow v) ≡ 0
+  unfolding ctcsRow rowAt
+  ctcs-up = start-up (packetStarts ctcsFrom ctcs) tt
+
+-- ---- the field of a row is the one that its items make due
+
+-- the field that is due at an act, in a row with the field f
+abbrev pub dueAt : ℕ → Field → Field
+dueAt zero f = NID-PACKET
+dueAt (suc zero) f = NID-XUSER
+dueAt (suc (suc zero)) f = f
+dueAt (suc (suc (suc n))) f = steers (switchOf f)
+
+-- the list of all of them is the list of the fields
+all-due : map (λ r. dueAt (r .act) (r .field)) rows ≡ map (λ r. r .field) rows
+unfolding rows
+all-due = refl
+
+-- so each of them is the row's field
+pub field-due : (k : ℕ) → dueAt (act k) (fieldAt k) ≡ fieldAt k
+unfolding rowAt
+field-due k =
+    sym (List·getD-map (λ r. dueAt (r .act) (r .field)) rows k (row 0 NID-PACKET 0 0)) ∙ ap (λ fs. getD fs k NID-PACKET) all-due
+    ∙ List·getD-map (λ r. r .field) rows k (row 0 NID-PACKET 0 0)
+
+-- at an end, the next packet's identifier or the end mark is due
+pub end-field : (k : ℕ) → act k ≡ 0 → fieldAt k ≡ NID-PACKET
+end-field k e = sym (field-due k) ∙ ap (λ a. dueAt a (fieldAt k)) e
+
+-- before the CTCS packet, its identifier is
+pub nest-field : (k : ℕ) → act k ≡ 1 → fieldAt k ≡ NID-XUSER
+nest-field k e = sym (field-due k) ∙ ap (λ a. dueAt a (fieldAt k)) e
+
+-- row 0, which stands between packets, is an end that is no group's
+pub none-act : act 0 ≡ 0
+unfolding rowAt
+none-act = refl
+
+pub none-up : up 0 ≡ 0
+unfolding rowAt
+none-up = refl
+
+-- ---- the codes of the rows' fields
+
+pub code-in : (k : ℕ) → k < 213 → codeOf (fieldAt k .sense) < 12
+unfolding rows
+code-in k l = ltb→lt _ _ (row-law (λ k r. ltb (codeOf (r .field .sense)) 12) tt k l)

@@ -1,10 +1,10 @@
 -- The place of a refusal is no part of the verdict: under two terms that agree on which packets collide, the same telegrams are
 -- accepted, and whatever is refused is refused with the same kind. Assumes nothing.
-use Prim.Native.Nat.{ℕ, zero, suc}
 use mathlib.Core.Bool.{Bool, cond, not}
 use mathlib.Core.List.{List, [], _∷_}
 use mathlib.Core.Option.{Option, some}
 use mathlib.Core.Path.{_≡_, refl, sym, ap, _∙_}
+use Prim.Native.Nat.{ℕ, zero, suc}
 use lib.Dec.{leb}
 use lib.ListN.{length}
 use Rattle.format.specs.Fields.{Rule}

@@ -1,7 +1,7 @@
 -- No telegram is the beginning of a longer one: whatever follows the end mark is refused, from any source. Assumes nothing.
-use Prim.Native.Nat.{ℕ, _+_}
 use mathlib.Core.List.{List, [], _∷_, _++_, append-nil}
 use mathlib.Core.Path.{_≡_, sym, ap, _∙_}
+use Prim.Native.Nat.{ℕ, _+_}
 use native.Mathlib.Omega.{arith}
 use lib.ListN.{length, length-append}
 use Rattle.format.specs.Rules.{State, Terms}

@@ -1,8 +1,8 @@
 -- What the driver takes from a source is a run of the rules with these parts, and every run is taken from its parts: for any terms
 -- and any source with the laws of Sources.antt. Assumes nothing.
-use Prim.Native.Nat.{ℕ, zero, suc, _≤_}
 use mathlib.Core.List.{List, [], _∷_, _++_, append-nil, append-assoc}
 use mathlib.Core.Path.{_≡_, refl, sym, ap, _∙_}
+use Prim.Native.Nat.{ℕ, zero, suc, _≤_}
 use native.Mathlib.Omega.{arith}
 use lib.ListN.{length, length-append}
 use Rattle.format.specs.Packets.{Items}

@@ -1,14 +1,14 @@
 -- What a source of values must be for the laws of telegrams to hold of it, and that a string of bits and a list of values are such
 -- sources. Assumes nothing.
-use Prim.Native.Nat.{ℕ, _+_, _^_, _<_, _≤_}
 use mathlib.Core.Bool.{Bool, true, false, cond, _&&_}
 use mathlib.Core.List.{List, [], _∷_, _++_}
 use mathlib.Core.Path.{_≡_, refl, sym, ap, _∙_, subst}
+use Prim.Native.Nat.{ℕ, _+_, _^_, _<_, _≤_}
 use native.Mathlib.Omega.{arith}
+use borrow.Author.Tests.{leb-true, ltb-true, le-leb, lt-leb, lt-ltb}
 use lib.Dec.{leb, ltb, eqb, T, leb→le}
 use lib.ListN.{length, take, drop, length-append, take-append-drop, length-drop}
 use lib.Seq.{take-at, drop-at, length-take-le}
-use borrow.Author.Tests.{leb-true, ltb-true, le-leb, lt-leb, lt-ltb}
 use Rattle.bits.specs.Bits.{digits, valueOf, Below}
 use Rattle.bits.proofs.Digits.{length-digits, valueOf-digits, valueOf-lt, digits-valueOf-at}
 use Rattle.bits.proofs.Bytes.{below-take, below-drop}

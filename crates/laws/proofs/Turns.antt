@@ -1,8 +1,8 @@
 -- For a loop that reads or writes field by field: one turn of the driver for each outcome, the entries that were pushed before it, and
 -- that the bound on the fields is no part of the answer. Assumes nothing.
-use Prim.Native.Nat.{ℕ, zero, suc, _<_, _≤_}
 use mathlib.Core.List.{List, [], _∷_, _++_}
 use mathlib.Core.Path.{_≡_, refl, sym, ap, _∙_}
+use Prim.Native.Nat.{ℕ, zero, suc, _<_, _≤_}
 use native.Mathlib.Omega.{arith}
 use lib.ListN.{length, length-append}
 use Rattle.format.specs.Packets.{Items}

@@ -1,15 +1,13 @@
 -- What a value leaves for later rules: each case of the code, over any state. Assumes nothing.
-use mathlib.Core.Path.{_≡_, refl, _∙_, sym, ap}
-use mathlib.Core.List.{List, [], _∷_}
-use mathlib.Core.Bool.{Bool, true, false}
+use mathlib.Core.Path.{_≡_, refl}
+use mathlib.Core.List.{List}
+use mathlib.Core.Bool.{true, false}
 use Prim.Native.Nat.{ℕ, zero, suc, _-_}
 use native.Mathlib.Omega.{arith}
 use borrow.Author.Tests.{eq-eqb, ne-eqb}
 use lib.Dec.{eqb}
 use Rattle.format.specs.Rules.{Earlier, noted, closes}
 use Rattle.telegram.specs.Machine.{Noted, senseOf, contextOf, levelOf}
-use Rattle.telegram.specs.declared.todo.Todo.{Todo}
-use Rattle.telegram.specs.declared.state.Level.{Level}
 use Rattle.telegram.specs.declared.state.Level.the-variants.{Header, Packet, User}
 use Rattle.telegram.specs.declared.state.State.{State}
 

@@ -1,48 +1,36 @@
 -- `telegram::machine::closes` meets its contract: a case for each level, the inner packet before the outer. Assumes nothing.
-use Rattle.telegram.proofs.Noting.{closes-inner, closes-header, closes-packet, closes-outer}
 use borrow.Author.Needs.{needs}
+use Rattle.telegram.proofs.Noting.{closes-inner, closes-header, closes-packet, closes-outer}
 use Rattle.telegram.proofs.machine.closes.Statement.{statement}
 use Rattle.telegram.proofs.machine.closes.Tie as tie
-use Rattle.telegram.proofs.machine.closes.Reads as reads
-use Rattle.telegram.proofs.machine.closes.Lts as lts
 
--- src/machine.rt:125:26
 enum-told : tie.Need-enum-told
 enum-told c = search needs
 
--- src/machine.rt:126:27
 enum-told-2 : tie.Need-enum-told-2
 enum-told-2 c = search needs
 
--- src/machine.rt:126:27
 sub-result : tie.Need-sub-result
 sub-result c = search needs
 
--- src/machine.rt:128:17
 enum-told-3 : tie.Need-enum-told-3
 enum-told-3 c = search needs
 
--- src/machine.rt:128:17
 sub-if1 : tie.Need-sub-if1
 sub-if1 c = search needs
 
--- src/machine.rt:129:17
 returns : tie.Need-returns
 returns c = λ l. closes-inner (c .before .before .before .before .before .args .s) l (c .before .before .before .enum-told3 .given .1) (c .if1 .taken)
 
--- src/machine.rt:131:14
 sub-result-2 : tie.Need-sub-result-2
 sub-result-2 c = search needs
 
--- src/machine.rt:119:1
 returns-2 : tie.Need-returns-2
 returns-2 c = λ l. closes-header (c .before .before .args .s) l (c .enum-told .given .1)
 
--- src/machine.rt:119:1
 returns-3 : tie.Need-returns-3
 returns-3 c = λ l. closes-packet (c .before .before .before .before .args .s) l (c .before .before .enum-told2 .given .1)
 
--- src/machine.rt:119:1
 returns-4 : tie.Need-returns-4
 returns-4 c = λ l. closes-outer (c .before .before .before .before .before .before .before .args .s) l (c .before .before .before .before .before .enum-told3 .given .1) (c .before .before .if1 .left)
 

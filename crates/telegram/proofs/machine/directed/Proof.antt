@@ -1,32 +1,24 @@
 -- `telegram::machine::directed` meets its contract: only a packet keeps its Q_DIR, and notes itself among the earlier ones. Assumes nothing.
-use Rattle.telegram.proofs.Noting.{dir-header, dir-packet, dir-user}
 use borrow.Author.Needs.{needs}
+use Rattle.telegram.proofs.Noting.{dir-header, dir-packet, dir-user}
 use Rattle.telegram.proofs.machine.directed.Statement.{statement}
 use Rattle.telegram.proofs.machine.directed.Tie as tie
-use Rattle.telegram.proofs.machine.directed.Reads as reads
-use Rattle.telegram.proofs.machine.directed.Lts as lts
 
--- src/machine.rt:42:26
 enum-told : tie.Need-enum-told
 enum-told c = search needs
 
--- src/machine.rt:44:13
 enum-told-2 : tie.Need-enum-told-2
 enum-told-2 c = search needs
 
--- src/machine.rt:47:24
 enum-told-3 : tie.Need-enum-told-3
 enum-told-3 c = search needs
 
--- src/machine.rt:36:1
 returns : tie.Need-returns
 returns c = let a = c .before .before .args in dir-header (a .s) (a .v) (c .enum-told .given .1)
 
--- src/machine.rt:36:1
 returns-2 : tie.Need-returns-2
 returns-2 c = let a = c .before .before .args in dir-packet (a .s) (a .v) (c .enum-told2 .given .1)
 
--- src/machine.rt:36:1
 returns-3 : tie.Need-returns-3
 returns-3 c = let a = c .before .before .args in dir-user (a .s) (a .v) (c .enum-told3 .given .1)
 

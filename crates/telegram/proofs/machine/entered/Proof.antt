@@ -1,53 +1,58 @@
+-- `telegram::machine::entered` meets its contract: what is to be sent, what is noted and what is tested, one after the other. Assumes nothing.
+use native.Mathlib.Omega.{arith}
 use borrow.Author.Needs.{needs}
+use Rattle.telegram.proofs.Stepping.{entered-mark, entered-on, width-in}
+use Rattle.format.specs.Table.{fieldAt}
 use Rattle.telegram.proofs.machine.entered.Statement.{statement}
 use Rattle.telegram.proofs.machine.entered.Tie as tie
-use Rattle.telegram.proofs.machine.entered.Reads as reads
-use Rattle.telegram.proofs.machine.entered.Lts as lts
-use Rattle.telegram.proofs.machine.noted.Reads as noted-reads
-use Rattle.telegram.proofs.machine.settled.Reads as settled-reads
-use Rattle.telegram.proofs.rows.code.Reads as code-reads
-use Rattle.telegram.proofs.rows.width.Reads as width-reads
-use Rattle.telegram.proofs.todo.advance.Reads as advance-reads
 
--- src/machine.rt:175:11
 advance-requires : tie.Need-advance-requires
 advance-requires c κs = search needs
 
--- src/machine.rt:176:24
 enum-told : tie.Need-enum-told
 enum-told c = search needs
 
--- src/machine.rt:177:19
 enum-known-t : tie.Need-enum-known-t
 enum-known-t c = search needs
 
--- src/machine.rt:178:30
 code-requires : tie.Need-code-requires
 code-requires c κs = search needs
 
--- src/machine.rt:178:17
 noted-requires : tie.Need-noted-requires
-noted-requires c κs = ?
+noted-requires c κs = tt
 
--- src/machine.rt:183:32
 width-requires : tie.Need-width-requires
 width-requires c κs = search needs
 
--- src/machine.rt:183:25
 add-t13 : tie.Need-add-t13
-add-t13 c = ?
+add-t13 c =
+    let a = c .before .before .before .before .before .before .before .before .before in
+    let w = width-in (fieldAt (a .args .s .todo .node)) in
+    omega (arith, a .pre .low, c .before .before .noted .ensures .here, c .before .width .ensures)
 
--- src/machine.rt:180:13
 settled-requires : tie.Need-settled-requires
-settled-requires c κs = ?
+settled-requires c κs =
+    let a = c .before .before .before .before .before .before .before .before .before in
+    let n = c .before .before .noted .ensures in
+    let first : _ = a .pre .sound .first in
+    record {
+      table = a .pre .table;
+      sound = record {
+        tidy = (rw (c .before .before .before .before .before .t .given .1) at (c .before .before .before .before .before .before .before .advance .ensures)) .tidy;
+        first = omega (arith, a .pre .sound .first, n .here, n .first);
+        second = omega (arith, n .second (a .pre .sound .second), n .here);
+      };
+    }
 
--- src/machine.rt:169:1
 returns : tie.Need-returns
-returns c = ?
+returns c = let a = c .before .before .before .before .args in entered-mark (a .s) (a .v) (rw (c .enum-told .given .1) at (c .before .before .advance .ensures))
 
--- src/machine.rt:169:1
 returns-2 : tie.Need-returns-2
-returns-2 c = ?
+returns-2 c =
+    let a = c .before .before .before .before .before .before .before .before .before .before .args in
+    let n = c .before .before .before .noted in
+    entered-on (a .s) (a .v) _ (n .result) _ (c .settled .result) (rw (c .before .before .before .before .before .before .t .given .1) at (c .before .before .before .before .before .before .before .before .advance .ensures))
+    (rw (← (c .before .before .before .before .code .ensures)) (n .ensures)) (omega (arith, n .ensures .here, c .before .before .width .ensures)) (c .settled .ensures)
 
 pub entered-spec : {M : Type 1} → statement M
 entered-spec =

@@ -1,32 +1,24 @@
 -- `telegram::machine::measured` meets its contract: the packet, or the CTCS packet inside it, keeps its L_PACKET. Assumes nothing.
-use Rattle.telegram.proofs.Noting.{long-header, long-packet, long-user}
 use borrow.Author.Needs.{needs}
+use Rattle.telegram.proofs.Noting.{long-header, long-packet, long-user}
 use Rattle.telegram.proofs.machine.measured.Statement.{statement}
 use Rattle.telegram.proofs.machine.measured.Tie as tie
-use Rattle.telegram.proofs.machine.measured.Reads as reads
-use Rattle.telegram.proofs.machine.measured.Lts as lts
 
--- src/machine.rt:57:26
 enum-told : tie.Need-enum-told
 enum-told c = search needs
 
--- src/machine.rt:59:13
 enum-told-2 : tie.Need-enum-told-2
 enum-told-2 c = search needs
 
--- src/machine.rt:63:13
 enum-told-3 : tie.Need-enum-told-3
 enum-told-3 c = search needs
 
--- src/machine.rt:51:1
 returns : tie.Need-returns
 returns c = let a = c .before .before .args in long-header (a .s) (a .v) (c .enum-told .given .1)
 
--- src/machine.rt:51:1
 returns-2 : tie.Need-returns-2
 returns-2 c = let a = c .before .before .args in long-packet (a .s) (a .v) (c .enum-told2 .given .1)
 
--- src/machine.rt:51:1
 returns-3 : tie.Need-returns-3
 returns-3 c = let a = c .before .before .args in long-user (a .s) (a .v) (c .enum-told3 .given .1)
 

@@ -1,42 +1,30 @@
 -- `telegram::machine::noted` meets its contract: five codes keep something of the value, and no other does. Assumes nothing.
-use Rattle.telegram.proofs.Noting.{packet-opens, user-opens, pig-any, nothing}
 use borrow.Author.Needs.{needs}
+use Rattle.telegram.proofs.Noting.{packet-opens, user-opens, pig-any, nothing}
 use Rattle.telegram.proofs.machine.noted.Statement.{statement}
 use Rattle.telegram.proofs.machine.noted.Tie as tie
-use Rattle.telegram.proofs.machine.noted.Reads as reads
-use Rattle.telegram.proofs.machine.noted.Lts as lts
-use Rattle.telegram.proofs.machine.directed.Reads as directed-reads
-use Rattle.telegram.proofs.machine.measured.Reads as measured-reads
 
--- src/machine.rt:75:9
 directed-requires : tie.Need-directed-requires
 directed-requires c κs = search needs
 
--- src/machine.rt:75:9
 returns : tie.Need-returns
 returns c = rw (c .before .if1 .taken) (c .directed .ensures)
 
--- src/machine.rt:78:9
 measured-requires : tie.Need-measured-requires
 measured-requires c κs = search needs
 
--- src/machine.rt:78:9
 returns-2 : tie.Need-returns-2
 returns-2 c = rw (c .before .if2 .taken) (c .measured .ensures)
 
--- src/machine.rt:82:9
 returns-3 : tie.Need-returns-3
 returns-3 c = let a = c .before .before .before .before .args in rw (c .if3 .taken) (packet-opens (a .s) (a .v))
 
--- src/machine.rt:96:9
 returns-4 : tie.Need-returns-4
 returns-4 c = let a = c .before .before .before .before .before .args in rw (c .if4 .taken) (user-opens (a .s) (a .v))
 
--- src/machine.rt:70:1
 returns-5 : tie.Need-returns-5
 returns-5 c = let a = c .before .before .before .before .before .before .args in rw (c .if5 .taken) (pig-any (a .s) (a .v))
 
--- src/machine.rt:70:1
 returns-6 : tie.Need-returns-6
 returns-6 c =
     let a = c .before .before .before .before .before .before .args in

@@ -1,30 +1,29 @@
+-- `telegram::machine::settled` meets its contract: before a packet's end nothing is tested; at it, the lengths are. Assumes nothing.
+use mathlib.Core.Path.{sym, _∙_}
+use borrow.Author.Tests.{not-true, not-false}
 use borrow.Author.Needs.{needs}
+use Rattle.telegram.proofs.Stepping.{settled-goes, settled-breaks, settled-fresh}
 use Rattle.telegram.proofs.machine.settled.Statement.{statement}
 use Rattle.telegram.proofs.machine.settled.Tie as tie
-use Rattle.telegram.proofs.machine.settled.Reads as reads
-use Rattle.telegram.proofs.machine.settled.Lts as lts
-use Rattle.telegram.proofs.machine.closes.Reads as closes-reads
-use Rattle.telegram.proofs.rows.act.Reads as act-reads
 
--- src/machine.rt:143:8
 act-requires : tie.Need-act-requires
 act-requires c κs = search needs
 
--- src/machine.rt:144:9
 returns : tie.Need-returns
-returns c = ?
+returns c = let a = c .before .before .before in settled-goes (a .args .s) (a .pre .sound) (λ e. c .if1 .taken (c .before .act .ensures ∙ e))
 
--- src/machine.rt:146:9
 closes-requires : tie.Need-closes-requires
 closes-requires c κs = search needs
 
--- src/machine.rt:147:9
 returns-2 : tie.Need-returns-2
-returns-2 c = ?
+returns-2 c =
+    let a = c .before .before .before .before .before in
+    settled-breaks (a .args .s) (a .pre .sound) (cc) (λ l. sym (c .before .closes .ensures l) ∙ not-true _ (c .if2 .taken))
 
--- src/machine.rt:137:1
 returns-3 : tie.Need-returns-3
-returns-3 c = ?
+returns-3 c =
+    let a = c .before .before .before .before .before in
+    settled-fresh (a .args .s) (a .pre .sound) (cc) (λ l. sym (c .before .closes .ensures l) ∙ not-false _ (c .if2 .left))
 
 pub settled-spec : {M : Type 1} → statement M
 settled-spec = tie.close (tie.spec act-requires returns closes-requires returns-2 returns-3)

@@ -1,34 +1,26 @@
 -- `telegram::state::place` meets its contract: a case for each level. Assumes nothing.
-use Rattle.format.specs.Rules.{packetPlace}
 use borrow.Author.Needs.{needs}
+use Rattle.format.specs.Rules.{packetPlace}
 use Rattle.telegram.proofs.state.place.Statement.{statement}
 use Rattle.telegram.proofs.state.place.Tie as tie
-use Rattle.telegram.proofs.state.place.Reads as reads
-use Rattle.telegram.proofs.state.place.Lts as lts
 
--- src/state.rt:59:26
 enum-told : tie.Need-enum-told
 enum-told c = search needs
 
--- src/state.rt:60:26
 enum-told-2 : tie.Need-enum-told-2
 enum-told-2 c = search needs
 
--- src/state.rt:61:24
 enum-told-3 : tie.Need-enum-told-3
 enum-told-3 c = search needs
 
--- src/state.rt:54:1
 returns : tie.Need-returns
 unfolding packetPlace
 returns c = λ l. rw (c .enum-told .given .1)
 
--- src/state.rt:54:1
 returns-2 : tie.Need-returns-2
 unfolding packetPlace
 returns-2 c = λ l. rw (c .enum-told2 .given .1)
 
--- src/state.rt:54:1
 returns-3 : tie.Need-returns-3
 unfolding packetPlace
 returns-3 c = λ l. rw (c .enum-told3 .given .1)

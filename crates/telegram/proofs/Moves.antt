@@ -1,0 +1,417 @@
+-- What is still to be sent, as the machine keeps it: what each of its moves makes of it, over plain numbers and records.
+-- Assumes nothing.
+use mathlib.Core.Path.{_≡_, refl, _∙_, subst, sym, ap}
+use mathlib.Core.Bool.{Bool, true, false, cond}
+use mathlib.Core.Logic.{_⊎_, inl, inr, ⊎-elim}
+use mathlib.Core.Option.{some}
+use Prim.Native.Nat.{ℕ, zero, suc, _+_, _-_, _<_}
+use native.Mathlib.Nat.{eq-zero-or-pos, eq-or-lt-of-le}
+use native.Mathlib.Numerals.{add-one}
+use native.Mathlib.Omega.{arith}
+use borrow.Author.Tests.{eq-eqb, ne-eqb}
+use lib.Dec.{eqb, eqb·suc-zero}
+use Rattle.format.specs.Fields.{Field}
+use Rattle.format.specs.Packets.{Items, _⧺_, times}
+use Rattle.format.specs.Packets.Items.{end, nest, send, sendIf, sendEither, sendTimes}
+use Rattle.format.specs.Rules.{Context, due, next, orEnd, settled}
+use Rattle.format.specs.Rules.Next.{go}
+use Rattle.format.specs.Table.{act, fieldAt, jump, up, shape, node, etcsRow, ctcsRow}
+use Rattle.format.specs.Kinds.{etcsStart, ctcsStart}
+use Rattle.format.specs.declared.packets.Start.{Start}
+use Rattle.format.proofs.Rows.{shaped, jump-in, up-in, next-in, three-up, end-jump, next-up, jump-up, group-up, two-up, group-starts, up-repeats, if-jump, if-next, node-end, node-nest, node-send, node-if, node-either, node-times, rootAt, etcs-root, ctcs-root, etcs-in, ctcs-in, etcs-up, ctcs-up, dueAt, field-due, end-field, none-act, none-up}
+use Rattle.telegram.specs.Machine.{onward, todoAt, todoOf, after, Tidy, Followed, Moved, Turned, Advanced}
+use Rattle.telegram.specs.declared.todo.Todo.{Todo}
+use Rattle.telegram.specs.declared.todo.Ahead.the-variants.{On, Mark}
+
+-- the acts of the fields that steer and repeat nothing
+three-or-four : (n : ℕ) → 2 < n → n < 5 → (n ≡ 3) ⊎ (n ≡ 4)
+three-or-four n l m = ⊎-elim (λ e. inl (sym e)) (λ h. inr (omega arith)) (eq-or-lt-of-le l)
+
+-- ---- items
+
+-- nothing more to send
+append-end : (i : Items) → i ⧺ end ≡ i
+unfolding _⧺_
+append-end end = refl
+append-end nest = refl
+append-end (send f r) = ap (send f) (append-end r)
+append-end (sendIf c f r) = ap (sendIf c f) (append-end r)
+append-end (sendEither c a b) = cc (append-end a, append-end b)
+append-end (sendTimes c g r) = ap (sendTimes c g) (append-end r)
+
+-- a choice, and what follows both
+choice-append : (b : Bool) (i j x : Items) → cond b (i ⧺ x) (j ⧺ x) ≡ cond b i j ⧺ x
+choice-append true i j x = refl
+choice-append false i j x = refl
+
+-- a field that may be left out, and what follows
+option-append : (b : Bool) (f : Field) (r x : Items) → cond b (send f (r ⧺ x)) (r ⧺ x) ≡ cond b (send f r) r ⧺ x
+unfolding _⧺_
+option-append true f r x = refl
+option-append false f r x = refl
+
+-- the items of an act, with x after them
+module _ (f g : Field) (a b x : Items) where
+  -- the field that is due is the act's
+  shape-due : (n : ℕ) → 0 < n → due (shape n f g a b ⧺ x) ≡ dueAt n f
+  unfolding shape _⧺_
+  shape-due zero l = absurd (omega arith)
+  shape-due (suc zero) l = refl
+  shape-due (suc (suc zero)) l = refl
+  shape-due (suc (suc (suc zero))) l = refl
+  shape-due (suc (suc (suc (suc zero)))) l = refl
+  shape-due (suc (suc (suc (suc (suc n))))) l = refl
+
+  -- no end, so that no packet's length is tested
+  shape-goes : (n : ℕ) → 0 < n → (p : ℕ) (c : Context) → settled p (shape n f g a b ⧺ x) c ≡ go (shape n f g a b ⧺ x) c
+  unfolding shape _⧺_ settled
+  shape-goes zero l p c = absurd (omega arith)
+  shape-goes (suc zero) l p c = refl
+  shape-goes (suc (suc zero)) l p c = refl
+  shape-goes (suc (suc (suc zero))) l p c = refl
+  shape-goes (suc (suc (suc (suc zero)))) l p c = refl
+  shape-goes (suc (suc (suc (suc (suc n))))) l p c = refl
+
+  -- what is next is what is after the field
+  shape-next : (n : ℕ) → 1 < n → (v : ℕ) → next (shape n f g a b ⧺ x) v ≡ some (after (shape n f g a b ⧺ x) v)
+  unfolding shape _⧺_ next after
+  shape-next zero l v = absurd (omega arith)
+  shape-next (suc zero) l v = absurd (omega arith)
+  shape-next (suc (suc zero)) l v = refl
+  shape-next (suc (suc (suc zero))) l v = refl
+  shape-next (suc (suc (suc (suc zero)))) l v = refl
+  shape-next (suc (suc (suc (suc (suc n))))) l v = refl
+
+  -- what is after a field that repeats nothing ends in x
+  shape-after : (n : ℕ) → 1 < n → n < 5 → (v : ℕ) → after (shape n f g a b ⧺ x) v ≡ after (shape n f g a b) v ⧺ x
+  unfolding shape _⧺_ after
+  shape-after zero l m v = absurd (omega arith)
+  shape-after (suc zero) l m v = absurd (omega arith)
+  shape-after (suc (suc zero)) l m v = refl
+  shape-after (suc (suc (suc zero))) l m v = option-append (eqb v 1) g b x
+  shape-after (suc (suc (suc (suc zero)))) l m v = choice-append (eqb v 1) a b x
+  shape-after (suc (suc (suc (suc (suc n))))) l m v = absurd (omega arith)
+
+-- ---- the items of a row
+
+-- what holds of any items of its act holds of a row's
+by-shape : (P : Items → Type 0) (k : ℕ) → ((f g : Field) (a b : Items) → P (shape (act k) f g a b)) → P (node k)
+by-shape P k h = subst P (sym (shaped k)) (h (fieldAt k) (fieldAt (suc k)) (node (suc k)) (node (suc (k + (jump k - suc k)))))
+
+module _ (k : ℕ) (x : Items) where
+  -- the field that is due is the row's
+  row-due : 0 < act k → due (node k ⧺ x) ≡ fieldAt k
+  row-due l = ap (λ i. due (i ⧺ x)) (shaped k) ∙ shape-due _ _ _ _ x (act k) l ∙ field-due k
+
+  -- no end, so that no packet's length is tested
+  row-goes : 0 < act k → (p : ℕ) (c : Context) → settled p (node k ⧺ x) c ≡ go (node k ⧺ x) c
+  row-goes l p c = by-shape (λ i. settled p (i ⧺ x) c ≡ go (i ⧺ x) c) k (λ f g a b. shape-goes f g a b x (act k) l p c)
+
+  -- what is next is what is after the field
+  row-next : 1 < act k → (v : ℕ) → next (node k ⧺ x) v ≡ some (after (node k ⧺ x) v)
+  row-next l v = by-shape (λ i. next (i ⧺ x) v ≡ some (after (i ⧺ x) v)) k (λ f g a b. shape-next f g a b x (act k) l v)
+
+  -- what is after a field that repeats nothing ends in x
+  row-after : 1 < act k → act k < 5 → (v : ℕ) → after (node k ⧺ x) v ≡ after (node k) v ⧺ x
+  row-after l m v = by-shape (λ i. after (i ⧺ x) v ≡ after i v ⧺ x) k (λ f g a b. shape-after f g a b x (act k) l m v)
+
+-- ---- what is to be sent, by its row
+
+module _ (k n m : ℕ) where
+  -- at an end that is no group's, nothing
+  pub todo-end : act k ≡ 0 → up k ≡ 0 → todoAt k n m ≡ end
+  unfolding todoAt onward _⧺_
+  todo-end e u =
+      ap (λ i. i ⧺ onward (up k) n (onward (up (up k)) m end)) (node-end k e)
+      ∙ ap (λ j. onward j n (onward (up (up k)) m end)) u
+
+  -- the CTCS packet: nothing follows it
+  pub todo-nest : act k ≡ 1 → todoAt k n m ≡ nest
+  unfolding todoAt _⧺_
+  todo-nest e = ap (λ i. i ⧺ onward (up k) n (onward (up (up k)) m end)) (node-nest k e)
+
+  -- at no end, no packet's length is tested
+  pub goes-on : (act k ≡ 0 → ⊥) → (p : ℕ) (c : Context) → settled p (todoAt k n m) c ≡ go (todoAt k n m) c
+  unfolding todoAt
+  goes-on h = row-goes k _ (omega arith)
+
+  -- a field's value: what is next is what is after it
+  pub todo-next : 1 < act k → (v : ℕ) → next (todoAt k n m) v ≡ some (after (todoAt k n m) v)
+  unfolding todoAt
+  todo-next = row-next k _
+
+-- a packet's first row: its items
+pub start-todo : (k : ℕ) → up k ≡ 0 → todoAt k 0 0 ≡ node k
+unfolding todoAt onward
+start-todo k u = ap (λ j. node k ⧺ onward j 0 (onward (up j) 0 end)) u ∙ append-end (node k)
+
+-- between packets, nothing
+pub none-left : todoAt 0 0 0 ≡ end
+none-left = todo-end 0 0 0 none-act none-up
+
+-- the field in the row is the field that is due
+pub due-right : (t : Todo) → Tidy t → fieldAt (t .node) ≡ due (todoOf t)
+unfolding todoAt
+due-right t d =
+    ⊎-elim
+    (λ (e : act (t .node) ≡ 0). end-field (t .node) e ∙ sym (ap due (todo-end (t .node) (t .left) (t .outer) e (d .settled e))))
+    (λ l. sym (row-due (t .node) _ l))
+    (eq-zero-or-pos (act (t .node)))
+
+-- ---- a field that repeats nothing: `follow`
+
+module _ (k v : ℕ) (l : k < 213) where
+  -- the field that is sent only if its switch is 1
+  optional : act k ≡ 3 → node (suc k) ≡ send (fieldAt (suc k)) (node (jump k))
+  optional e = node-send (suc k) (if-next k l e) ∙ ap (λ j. send (fieldAt (suc k)) (node j)) (sym (if-jump k l e))
+
+  -- one that steers is followed by the next row if it is 1, and by row jump if it is not
+  steered : (act k ≡ 3) ⊎ (act k ≡ 4) → after (node k) v ≡ cond (eqb v 1) (node (suc k)) (node (jump k))
+  unfolding after
+  steered (inl e) =
+      ap (λ i. after i v) (node-if k l e) ∙ ap (λ i. cond (eqb v 1) i (node (jump k))) (sym (optional e))
+  steered (inr e) = ap (λ i. after i v) (node-either k l e)
+
+  -- the next row, after a field that steers nothing or is 1
+  next-items : act k < 5 → (2 < act k → v ≡ 1) → (2 ≡ act k) ⊎ (2 < act k) → node (suc k) ≡ after (node k) v
+  unfolding after
+  next-items b o (inl e) = sym (ap (λ i. after i v) (node-send k (sym e)))
+  next-items b o (inr a) = rw (steered (three-or-four (act k) a b), eq-eqb v 1 (o a))
+
+  -- a field that steers nothing, or is 1, is followed by the next row
+  pub follows-next : 1 < act k → act k < 5 → (2 < act k → v ≡ 1) → Followed k v (k + 1)
+  follows-next a b o =
+      rw add-one
+      (record { inside = next-in k l a; within = next-up k l a b; items = next-items b o (eq-or-lt-of-le a) })
+
+  -- a field that steers and is not 1, by row jump
+  pub follows-jump : 2 < act k → act k < 5 → (v ≡ 1 → ⊥) → Followed k v (jump k)
+  follows-jump a b n =
+      record {
+        inside = jump-in k l;
+        within = jump-up k l a;
+        items = rw (steered (three-or-four (act k) a b), ne-eqb v 1 n);
+      }
+
+-- ---- groups
+
+-- what is to be sent from the end of a group of row u
+group-left : (u n : ℕ) (x : Items) → 0 < u → onward u n x ≡ times n (node (suc u)) (node (jump u) ⧺ x)
+unfolding onward
+group-left zero n x l = absurd (omega arith)
+group-left (suc u) n x l = ap (λ b. cond b end (times n (node (suc (suc u))) (node (jump (suc u)) ⧺ x))) (eqb·suc-zero u)
+
+-- row 0 repeats nothing
+repeats-pos : (k : ℕ) → act k ≡ 5 → 0 < k
+repeats-pos zero e = let z : _≡_ {A = ℕ} 0 5 = sym none-act ∙ e in absurd (omega arith)
+repeats-pos (suc k) e = omega arith
+
+-- a field that repeats a group
+module _ (k n m : ℕ) (l : k < 213) (e : act k ≡ 5) where
+  -- the group as many times as its value says, what follows the groups, and the rest of the group around them
+  after-repeats : (v : ℕ) → after (todoAt k n m) v ≡ times v (node (suc k)) (node (jump k) ⧺ onward (up k) n end)
+  unfolding todoAt after _⧺_ onward
+  after-repeats v =
+      ap (λ i. after (i ⧺ onward (up k) n (onward (up (up k)) m end)) v) (node-times k l e)
+      ∙ ap (λ u. times v (node (suc k)) (node (jump k) ⧺ onward (up k) n (onward u m end))) (two-up k l e)
+
+  -- no times
+  skips : todoAt (jump k) n m ≡ after (todoAt k n m) 0
+  unfolding todoAt times onward
+  skips =
+      ap (λ u. node (jump k) ⧺ onward u n (onward (up u) m end)) (jump-up k l (omega arith))
+      ∙ ap (λ u. node (jump k) ⧺ onward (up k) n (onward u m end)) (two-up k l e)
+      ∙ sym (after-repeats 0)
+
+  -- once, and v times more
+  enters : (v : ℕ) → todoAt (suc k) v n ≡ after (todoAt k n m) (suc v)
+  unfolding todoAt times
+  enters v =
+      ap (λ u. node (suc k) ⧺ onward u v (onward (up u) n end)) (group-up k l e)
+      ∙ ap (λ i. node (suc k) ⧺ i) (group-left k v (onward (up k) n end) (repeats-pos k e))
+      ∙ sym (after-repeats (suc v))
+
+-- what follows a group stands where the group does
+group-jump-up : (k : ℕ) → k < 213 → 0 < up k → up (jump (up k)) ≡ up (up k)
+group-jump-up k l p = let a = up-repeats k l p in jump-up (up k) (up-in k l) (omega arith)
+
+-- the end of a group
+module _ (k m : ℕ) (l : k < 213) (e : act k ≡ 0) (p : 0 < up k) where
+  -- the group again
+  again : (n : ℕ) → todoAt (suc (up k)) n m ≡ todoAt k (suc n) m
+  unfolding todoAt times _⧺_
+  again n =
+      ap (λ u. node (suc (up k)) ⧺ onward u n (onward (up u) m end)) (group-up (up k) (up-in k l) (up-repeats k l p))
+      ∙ ap (λ x. node (suc (up k)) ⧺ x) (group-left (up k) n (onward (up (up k)) m end) p)
+      ∙ sym
+      (ap (λ x. x ⧺ onward (up k) (suc n) (onward (up (up k)) m end)) (node-end k e)
+      ∙ group-left (up k) (suc n) (onward (up (up k)) m end) p)
+
+  -- what follows its last
+  leaves : todoAt (jump (up k)) m 0 ≡ todoAt k 0 m
+  unfolding todoAt times _⧺_ onward
+  leaves =
+      ap (λ u. node (jump (up k)) ⧺ onward u m (onward (up u) 0 end)) (group-jump-up k l p)
+      ∙ ap (λ u. node (jump (up k)) ⧺ onward (up (up k)) m (onward u 0 end)) (three-up k l)
+      ∙ sym
+      (ap (λ x. x ⧺ onward (up k) 0 (onward (up (up k)) m end)) (node-end k e) ∙ group-left (up k) 0 (onward (up (up k)) m end) p)
+
+-- ---- a field is passed: `moved`
+
+module _ (t : Todo) (v : ℕ) (l : t .node < 213) where
+  -- one that repeats nothing
+  pub moves-on : (r : ℕ) → 1 < act (t .node) → act (t .node) < 5 → Followed (t .node) v r
+      → Moved t v (record { node = r; left = t .left; outer = t .outer })
+  unfolding todoAt
+  moves-on r a b f =
+      record {
+        inside = f .inside;
+        items =
+            ap (λ u. node r ⧺ onward u (t .left) (onward (up u) (t .outer) end)) (f .within)
+            ∙ ap (λ i. i ⧺ onward (up (t .node)) (t .left) (onward (up (up (t .node))) (t .outer) end)) (f .items)
+            ∙ sym (row-after (t .node) _ a b v);
+      }
+
+  -- one that repeats a group no times
+  pub moves-past : act (t .node) ≡ 5 → v ≡ 0 → Moved t v (record { node = jump (t .node); left = t .left; outer = t .outer })
+  moves-past e z =
+      record {
+        inside = jump-in (t .node) l;
+        items = skips (t .node) (t .left) (t .outer) l e ∙ ap (after (todoOf t)) (sym z);
+      }
+
+  -- one that repeats a group
+  pub moves-in : (r : ℕ) → act (t .node) ≡ 5 → (v ≡ 0 → ⊥) → r ≡ t .node + 1
+      → Moved t v (record { node = r; left = v - 1; outer = t .left })
+  moves-in r e n q =
+      let w : suc (v - 1) ≡ v = omega arith in
+      let k : r ≡ suc (t .node) = omega arith in
+      rw k
+      (record {
+        inside = next-in (t .node) l (omega arith);
+        items = enters (t .node) (t .left) (t .outer) l e (v - 1) ∙ ap (after (todoOf t)) w;
+      })
+
+-- ---- a group's end is passed: `turned`
+
+module _ (t : Todo) (u : ℕ) (l : t .node < 213) (e : act (t .node) ≡ 0) (q : u ≡ jump (t .node)) where
+  -- an end's jump is the row that repeats its group
+  holds : u ≡ up (t .node)
+  holds = q ∙ end-jump (t .node) l e
+
+  -- it is no group's
+  pub turns-none : u ≡ 0 → Turned t t
+  turns-none z =
+      let h : up (t .node) ≡ 0 = sym holds ∙ z in
+      record { inside = l; items = refl; was = λ w. e; out = λ w. h ∙ sym (ap up h ∙ none-up) }
+
+  module _ (n : u ≡ 0 → ⊥) where
+    -- there is a group
+    grouped : 0 < up (t .node)
+    grouped = let h = holds in omega arith
+
+    -- it was the group's last time
+    pub turns-out : (j : ℕ) → t .left ≡ 0 → j ≡ jump u → Turned t (record { node = j; left = t .outer; outer = 0 })
+    turns-out j z i =
+        let g : j ≡ jump (up (t .node)) = i ∙ ap jump holds in
+        rw g
+        (record {
+          inside = jump-in (up (t .node)) (up-in (t .node) l);
+          items = leaves (t .node) (t .outer) l e grouped ∙ ap (λ x. todoAt (t .node) x (t .outer)) (sym z);
+          was = λ w. e;
+          out = λ w. group-jump-up (t .node) l grouped;
+        })
+
+    -- the group comes again
+    pub turns-again : (r : ℕ) → (t .left ≡ 0 → ⊥) → r ≡ u + 1
+        → Turned t (record { node = r; left = t .left - 1; outer = t .outer })
+    turns-again r z i =
+        let a = up-repeats (t .node) l grouped in
+        let s = group-starts (up (t .node)) (up-in (t .node) l) a in
+        let h = holds in
+        let g : r ≡ suc (up (t .node)) = omega arith in
+        let m : suc (t .left - 1) ≡ t .left = omega arith in
+        rw g
+        (record {
+          inside = next-in (up (t .node)) (up-in (t .node) l) (omega arith);
+          items = again (t .node) (t .outer) l e grouped (t .left - 1) ∙ ap (λ x. todoAt (t .node) x (t .outer)) m;
+          was = λ w. e;
+          out = λ w. let x : _≡_ {A = ℕ} 0 1 = omega arith in absurd (omega arith);
+        })
+
+-- ---- what is after a value: `advance`
+
+-- no group holds a group that holds a group: after two turns it is no group's end
+two-turns : (t r s : Todo) → t .node < 213 → Turned t r → Turned r s → Tidy s
+two-turns t r s l p q =
+    record { inside = q .inside; settled = λ e. q .out e ∙ ap up (p .out (q .was e)) ∙ three-up (t .node) l }
+
+-- the items that begin in a row; of row 0, nothing
+root-end : (k : ℕ) → orEnd (rootAt k) ≡ node k
+root-end zero = sym (node-end 0 none-act)
+root-end (suc k) = refl
+
+-- the items that begin in a row, if it is one
+root-some : (k : ℕ) → (k ≡ 0 → ⊥) → rootAt k ≡ some (node k)
+root-some zero n = absurd (n refl)
+root-some (suc k) n = refl
+
+-- a packet's first row is no group's end
+starts-tidy : (k : ℕ) → k < 213 → up k ≡ 0 → Tidy (record { node = k; left = 0; outer = 0 })
+starts-tidy k l u = record { inside = l; settled = λ e. u }
+
+module _ (t : Todo) (v : ℕ) (d : Tidy t) where
+  -- between packets: the identifier's packet, or the end mark
+  module _ (s : Start) (q : s ≡ etcsStart v) (e : act (t .node) ≡ 0) where
+    -- the start that is told has the packet's row
+    row-is : s .row ≡ etcsRow v
+    unfolding etcsStart
+    row-is = ap (λ x. x .row) q
+
+    -- the items that begin there are next
+    next-is : next (todoOf t) v ≡ rootAt (s .row)
+    unfolding next
+    next-is =
+        ap (λ i. next i v) (todo-end (t .node) (t .left) (t .outer) e (d .settled e)) ∙ etcs-root v ∙ ap rootAt (sym row-is)
+
+    -- there is none: the end mark
+    pub advances-over : s .row ≡ 0 → Advanced t v Mark
+    advances-over z = record { tidy = tt; items = next-is ∙ ap rootAt z }
+
+    -- its first row
+    pub advances-to : (s .row ≡ 0 → ⊥) → Advanced t v (On (record { node = s .row; left = 0; outer = 0 }))
+    advances-to n =
+        let u : up (s .row) ≡ 0 = ap up row-is ∙ etcs-up v in
+        record {
+          tidy = starts-tidy (s .row) (subst (λ (k : ℕ). k < 213) (sym row-is) (etcs-in v)) u;
+          items = next-is ∙ root-some (s .row) n ∙ ap some (sym (start-todo (s .row) u));
+        }
+
+  -- at the CTCS packet's identifier: that packet, or nothing
+  module _ (s : Start) (q : s ≡ ctcsStart v) (e : act (t .node) ≡ 1) where
+    -- the start that is told has the packet's row
+    user-row-is : s .row ≡ ctcsRow v
+    unfolding ctcsStart
+    user-row-is = ap (λ x. x .row) q
+
+    -- its first row, or row 0
+    pub advances-inside : Advanced t v (On (record { node = s .row; left = 0; outer = 0 }))
+    unfolding next
+    advances-inside =
+        let u : up (s .row) ≡ 0 = ap up user-row-is ∙ ctcs-up v in
+        record {
+          tidy = starts-tidy (s .row) (subst (λ (k : ℕ). k < 213) (sym user-row-is) (ctcs-in v)) u;
+          items =
+              ap (λ i. next i v) (todo-nest (t .node) (t .left) (t .outer) e)
+              ∙ ap (λ o. some (orEnd o)) (ctcs-root v ∙ ap rootAt (sym user-row-is))
+              ∙ ap some (root-end (s .row) ∙ sym (start-todo (s .row) u));
+        }
+
+  -- at a field: it is passed, and then up to two ends
+  pub advances-on : (m r s : Todo) → 1 < act (t .node) → Moved t v m → Turned m r → Turned r s → Advanced t v (On s)
+  advances-on m r s a p f g =
+      record {
+        tidy = two-turns m r s (p .inside) f g;
+        items =
+            todo-next (t .node) (t .left) (t .outer) a v ∙ ap some (sym (g .items ∙ f .items ∙ p .items));
+      }
