@@ -368,3 +368,18 @@ none-up = refl
 pub code-in : (k : ℕ) → k < 213 → codeOf (fieldAt k .sense) < 12
 unfolding rows
 code-in k l = ltb→lt _ _ (row-law (λ k r. ltb (codeOf (r .field .sense)) 12) tt k l)
+
+code-width : (c w : ℕ) → T (every (λ k r. imp (eqb (codeOf (r .field .sense)) c) (eqb (r .field .width) w)) 0 rows)
+    → (k : ℕ) → k < 213 → codeOf (fieldAt k .sense) ≡ c → fieldAt k .width ≡ w
+code-width c w t k l e =
+    eqb→eq _ _
+    (imp-use (eqb (codeOf (fieldAt k .sense)) c) (eqb (fieldAt k .width) w) (row-law _ t k l) (eq-eqb (codeOf (fieldAt k .sense)) c e))
+
+-- NID_PACKET has 8 bits and Q_DIR has 2
+pub packet-width : (k : ℕ) → k < 213 → codeOf (fieldAt k .sense) ≡ 7 → fieldAt k .width ≡ 8
+unfolding rows
+packet-width = code-width 7 8 tt
+
+pub direction-width : (k : ℕ) → k < 213 → codeOf (fieldAt k .sense) ≡ 9 → fieldAt k .width ≡ 2
+unfolding rows
+direction-width = code-width 9 2 tt

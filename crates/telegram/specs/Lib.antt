@@ -1,2 +1,4 @@
--- What the machine's state stands for, and what each of its functions promises.
+-- What the reader promises; and what the machine's state stands for, and each of its functions promises.
+pub mod Reader
 pub mod Machine
+pub mod Filling

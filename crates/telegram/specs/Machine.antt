@@ -1,9 +1,9 @@
 -- What the machine's state stands for in document 01's definitions, and what each of its functions promises. Definitions alone.
 use mathlib.Core.Path.{_≡_}
-use mathlib.Core.Bool.{Bool, cond}
+use mathlib.Core.Bool.{true, false, Bool, cond}
 use mathlib.Core.List.{List, [], _∷_}
 use mathlib.Core.Option.{Option, some, none}
-use Prim.Native.Nat.{ℕ, suc, _+_, _/_, _%_, _<_, _≤_}
+use Prim.Native.Nat.{ℕ, suc, _+_, _/_, _%_, _^_, _<_, _≤_}
 use lib.Dec.{eqb}
 use lib.ListN.{getD}
 use Rattle.format.specs.Fields.{Rule, Sense}
@@ -128,7 +128,8 @@ senseOf c a b =
 -- of a Q_DIR, where twice says whether its packet collides with an earlier one
 abbrev pub Directed : State → ℕ → Bool → Verdict → Type 0
 Directed s v twice r =
-    (p : Terms) (l : List Earlier) → p .collides (contextOf l s) v ≡ twice → verdictOf r ≡ broken p (contextOf l s) direction v
+    (p : Terms) (l : List Earlier) → (s .level ≡ Packet → p .collides (contextOf l s) v ≡ twice)
+    → verdictOf r ≡ broken p (contextOf l s) direction v
 
 pub record Judging (rows : List ℕ) (s : State) : Type 0 where
   pub table : rows ≡ words
@@ -139,7 +140,7 @@ ruleAt k = ruleOf (fieldAt k .sense)
 
 abbrev pub Judged : State → ℕ → Bool → Verdict → Type 0
 Judged s v twice r =
-    (p : Terms) (l : List Earlier) → (ruleAt (s .todo .node) ≡ direction → p .collides (contextOf l s) v ≡ twice)
+    (p : Terms) (l : List Earlier) → (ruleAt (s .todo .node) ≡ direction → s .level ≡ Packet → p .collides (contextOf l s) v ≡ twice)
     → verdictOf r ≡ broken p (contextOf l s) (ruleAt (s .todo .node)) v
 
 -- ---- what is noted
@@ -151,6 +152,7 @@ pub record Noted (s : State) (c v : ℕ) (r : State) : Type 0 where
   pub here : r .at ≡ s .at
   pub first : r .start ≡ s .start
   pub second : s .userstart ≤ s .at → r .userstart ≤ s .at
+  pub small : s .id < 256 → (c ≡ 7 → v < 256) → r .id < 256
 
 -- ---- one field
 
@@ -159,6 +161,7 @@ pub record Sound (s : State) : Type 0 where
   pub tidy : Tidy (s .todo)
   pub first : s .start ≤ s .at
   pub second : s .userstart ≤ s .at
+  pub small : s .id < 256
 
 abbrev pub Kept : ℕ → Outcome → Type 0
 Kept n (Go s) = Sound s × (s .at ≡ n)
@@ -173,10 +176,11 @@ pub record Settled (s : State) (r : Outcome) : Type 0 where
   pub right : (l : List Earlier) → settled (s .at) (todoOf (s .todo)) (contextOf l s) ≡ nextOf l r
   pub kept : Kept (s .at) r
 
-pub record Stepping (rows : List ℕ) (s : State) : Type 0 where
+pub record Stepping (rows : List ℕ) (s : State) (v : ℕ) : Type 0 where
   pub table : rows ≡ words
   pub sound : Sound s
   pub low : s .at ≤ 65536
+  pub fits : v < 2 ^ fieldAt (s .todo .node) .width
 
 -- the packets before, once the value is noted
 abbrev pub earlierAfter : List Earlier → State → ℕ → List Earlier
@@ -191,7 +195,7 @@ pub record Entered (s : State) (v : ℕ) (r : Outcome) : Type 0 where
 
 -- the machine's step is the definition's, whatever the place of refusals and whatever collides, if twice says that of this value
 pub record Stepped (s : State) (v : ℕ) (twice : Bool) (r : Outcome) : Type 0 where
-  pub right : (p : Terms) (l : List Earlier) → (ruleAt (s .todo .node) ≡ direction → p .collides (contextOf l s) v ≡ twice)
+  pub right : (p : Terms) (l : List Earlier) → (ruleAt (s .todo .node) ≡ direction → s .level ≡ Packet → p .collides (contextOf l s) v ≡ twice)
       → step p (view l s) v ≡ nextOf (earlierAfter l s v) r
   pub kept : Kept (s .at + fieldAt (s .todo .node) .width) r
 
@@ -208,3 +212,10 @@ packetIn x = record { id = x / 4; dir = x % 4 }
 abbrev pub packetsIn : List ℕ → List Earlier
 packetsIn [] = []
 packetsIn (x ∷ xs) = packetIn x ∷ packetsIn xs
+
+-- ---- the Q_DIR of a packet
+
+-- whether the Q_DIR of a packet is due, at which packets collide and one more is noted
+pub record Directing (s : State) (r : Bool) : Type 0 where
+  pub yes : r ≡ true → (ruleAt (s .todo .node) ≡ direction) × (s .level ≡ Packet) × (fieldAt (s .todo .node) .width ≡ 2)
+  pub no : r ≡ false → (l : List Earlier) (v : ℕ) → earlierAfter l s v ≡ l

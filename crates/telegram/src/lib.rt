@@ -1,7 +1,11 @@
-// Reading, writing and normalising telegrams. What stands today is the machine that all three will drive.
+// Checking and reading telegrams, by the machine that writing and normalising will drive too.
 mod earlier;
 mod machine;
+mod reader;
 mod rows;
 mod state;
 mod todo;
 mod verdict;
+
+pub use reader::check;
+pub use reader::read;

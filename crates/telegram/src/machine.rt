@@ -166,7 +166,7 @@ fn settled(rows: &[u32; 213], s: State) -> Outcome
 
 // What follows a value that keeps its rule.
 fn entered(rows: &[u32; 213], s: State, v: u64) -> Outcome
-    requires { ⌜ Stepping (now rows) s ⌝ }
+    requires { ⌜ Stepping (now rows) s v ⌝ }
     ensures { λ r. ⌜ Entered s v r ⌝ }
 {
     let old = s.todo;
@@ -197,7 +197,7 @@ fn entered(rows: &[u32; 213], s: State, v: u64) -> Outcome
 
 // The field that is due holds v: the rule that this breaks, or where the telegram then stands.
 pub(crate) fn step(rows: &[u32; 213], s: State, v: u64, twice: bool) -> Outcome
-    requires { ⌜ Stepping (now rows) s ⌝ }
+    requires { ⌜ Stepping (now rows) s v ⌝ }
     ensures { λ r. ⌜ Stepped s v twice r ⌝ }
 {
     match judge(rows, s, v, twice) {

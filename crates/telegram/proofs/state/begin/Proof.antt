@@ -12,7 +12,7 @@ returns : tie.Need-returns
 unfolding begun rowAt
 returns c = record {
   right = rw (start-todo 1 refl, header-at);
-  sound = record { tidy = record { inside = omega arith; settled = λ e. refl }; first = omega arith; second = omega arith };
+  sound = record { tidy = record { inside = omega arith; settled = λ e. refl }; first = omega arith; second = omega arith; small = omega arith };
 }
 
 pub begin-spec : {M : Type 1} → statement M

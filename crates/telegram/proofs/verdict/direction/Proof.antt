@@ -20,7 +20,7 @@ returns-2 c =
     λ p l h.
     let e = c .before .before .before in
     let a = e .before .args in
-    direction-twice p (contextOf l (a .s)) (a .v) (e .if1 .left) (ap levelOf (c .before .enum-told2 .given .1)) (h ∙ c .if2 .taken)
+    direction-twice p (contextOf l (a .s)) (a .v) (e .if1 .left) (ap levelOf (c .before .enum-told2 .given .1)) (h (c .before .enum-told2 .given .1) ∙ c .if2 .taken)
 
 enum-told-3 : tie.Need-enum-told-3
 enum-told-3 c = search needs
@@ -44,7 +44,7 @@ returns-5 c =
     λ p l h.
     let e = c .before .before .before in
     let a = e .before .args in
-    direction-once p (contextOf l (a .s)) (a .v) (e .if1 .left) (ap levelOf (c .before .enum-told2 .given .1)) (h ∙ c .if2 .left)
+    direction-once p (contextOf l (a .s)) (a .v) (e .if1 .left) (ap levelOf (c .before .enum-told2 .given .1)) (h (c .before .enum-told2 .given .1) ∙ c .if2 .left)
 
 returns-6 : tie.Need-returns-6
 returns-6 c =

@@ -1,0 +1,189 @@
+// Checking and reading a telegram: the machine driven by bits.
+//
+// A refusal changes no output, so reading checks first, and stores in a second run, which follows the rows alone.
+ghost use mathlib.Core.Path.{_≡_};
+ghost use Prim.Native.Nat.{_*_, _≤_};
+ghost use lib.ListN.{length, take};
+ghost use Rattle.bits.specs.Bits.{bitsOf, bytesFor};
+ghost use Rattle.format.specs.Rules.{paper};
+ghost use Rattle.format.specs.Telegrams as telegrams;
+ghost use Rattle.telegram.specs.Reader.{sized, clear, checked, answerOf, Read};
+ghost use Rattle.format.specs.declared.Answer.the-variants.{Refused};
+ghost use Rattle.telegram.specs.Machine.{InTable, Directing};
+ghost use Rattle.telegram.specs.Filling.{Filling, Filled};
+use crate::earlier::collides;
+use crate::machine::Outcome;
+use crate::machine::step;
+use crate::rows::DIRECTION;
+use crate::rows::code;
+use crate::rows::width;
+use crate::state::Level;
+use crate::state::State;
+use crate::state::begin;
+use crate::state::place;
+use crate::todo::Ahead;
+use crate::todo::Todo;
+use crate::todo::advance;
+use bits::Cursor;
+use bits::Taken;
+use format::Answer;
+use format::Kind;
+use format::Refusal;
+use format::table;
+
+// Whether the bytes and n are a telegram: Accepted with the count of its values, or its refusal.
+pub fn check(s: &[u8], n: usize) -> Answer
+    ensures { λ r. ⌜ r ≡ answerOf (checked paper (now (s .entry)) n) ⌝ }
+{
+    if !sized(s, n) {
+        return refuse(Kind::Size, 0);
+    }
+    if !clear(s, n) {
+        return refuse(Kind::Padding, 0);
+    }
+    scan(s, n)
+}
+
+// Reads a telegram into out, one value a field in order of sending, and answers their count. A refusal leaves out as it was.
+pub fn read(s: &[u8], n: usize, out: &mut [u64]) -> Answer
+    ensures { λ r. ⌜ Read paper (now (s .entry)) n (now (out .entry)) r (now (out .exit)) ⌝ }
+{
+    if out.len() < 830 {
+        return refuse(Kind::Room, 0);
+    }
+    let a = check(s, n);
+    let Answer::Accepted(_) = a else {
+        return a;
+    };
+    fill(s, n, out);
+    a
+}
+
+fn refuse(kind: Kind, place: usize) -> Answer
+    ensures { λ r. ⌜ r ≡ Refused (record { kind = kind; place = place }) ⌝ }
+{
+    Answer::Refused(Refusal { kind, place })
+}
+
+// Whether n is the length of a telegram, and s has the bytes for it and no more.
+fn sized(s: &[u8], n: usize) -> bool
+    ensures { λ r. ⌜ r ≡ sized (now (s .entry)) n ⌝ }
+{
+    if n < 58 {
+        return false;
+    }
+    if 830 < n {
+        return false;
+    }
+    s.len() == bits::bytes_for(n)
+}
+
+// Whether the unused low bits of the last byte are 0: as one field, they are the number 0.
+fn clear(s: &[u8], n: usize) -> bool
+    requires { ⌜ (n ≤ 830) × (length (now s) ≡ bytesFor n) ⌝ }
+    ensures { λ r. ⌜ r ≡ clear (now (s .entry)) n ⌝ }
+{
+    let all = 8 * s.len();
+    let c = Cursor { at: n };
+    match c.take(s, all, all - n) {
+        Taken::Field(v, _) => v == 0,
+        Taken::Short => false,
+    }
+}
+
+// Whether the field that is due is the Q_DIR of a packet, by which packets collide.
+fn directing(rows: &[u32; 213], s: State) -> bool
+    requires { ⌜ InTable (now rows) (s .todo .node) ⌝ }
+    ensures { λ r. ⌜ Directing s r ⌝ }
+{
+    let t = s.todo;
+    let k = t.node;
+    if code(rows, k) != DIRECTION {
+        return false;
+    }
+    let l = s.level;
+    match l {
+        Level::Header => false,
+        Level::Packet => true,
+        Level::User => false,
+    }
+}
+
+// Goes over the fields of the first n bits of s, each taken through the cursor, up to the first broken rule or the end mark. Every
+// packet whose Q_DIR was taken is in seen: its Q_DIR has two bits of the 830, so that there are not more than 415.
+fn scan(s: &[u8], n: usize) -> Answer
+    requires { ⌜ (n ≤ 830) × (n ≤ 8 * length (now s)) ⌝ }
+    ensures { λ r. ⌜ r ≡ answerOf (telegrams.read paper (take n (bitsOf (now (s .entry))))) ⌝ }
+{
+    let rows = table::rows();
+    let mut seen = [0u16; 416];
+    let mut met: usize = 0;
+    let mut st = begin();
+    let mut c = Cursor { at: 0 };
+    let mut count: usize = 0;
+    loop {
+        let t = st.todo;
+        let k = t.node;
+        let Taken::Field(v, next) = c.take(s, n, width(&rows, k)) else {
+            return refuse(Kind::Ended, place(Kind::Ended, st, 0));
+        };
+        let directs = directing(&rows, st);
+        let twice = if directs {
+            collides(&seen, met, st.id, v)
+        } else {
+            false
+        };
+        match step(&rows, st, v, twice) {
+            Outcome::Breaks(kind) => {
+                return refuse(kind, place(kind, st, v));
+            }
+            Outcome::Over => {
+                if next.at == n {
+                    return Answer::Accepted(count + 1);
+                }
+                return refuse(Kind::Trailing, place(Kind::Trailing, st, v));
+            }
+            Outcome::Go(after) => {
+                if directs {
+                    seen[met] = (4 * st.id + v) as u16;
+                    met += 1;
+                }
+                st = after;
+                c = next;
+                count += 1;
+            }
+        }
+    }
+}
+
+// Stores the values of an accepted telegram.
+fn fill(s: &[u8], n: usize, out: &mut [u64])
+    requires { ⌜ Filling (now s) n (now out) ⌝ }
+    ensures { λ r. ⌜ Filled (now (s .entry)) n (now (out .entry)) (now (out .exit)) ⌝ }
+{
+    let rows = table::rows();
+    let mut t = Todo {
+        node: 1,
+        left: 0,
+        outer: 0,
+    };
+    let mut c = Cursor { at: 0 };
+    let mut i: usize = 0;
+    loop {
+        let k = t.node;
+        let Taken::Field(v, next) = c.take(s, n, width(&rows, k)) else {
+            return;
+        };
+        out[i] = v;
+        match advance(&rows, t, v) {
+            Ahead::Mark => {
+                return;
+            }
+            Ahead::On(u) => {
+                t = u;
+            }
+        }
+        c = next;
+        i += 1;
+    }
+}
