@@ -1,7 +1,11 @@
--- What the machine's functions stand on, by what they are about.
+-- What the code stands on, by what it is about.
 pub mod Moves
 pub mod Places
 pub mod Senses
 pub mod Noting
 pub mod Seen
 pub mod Stepping
+pub mod Directions
+pub mod Scanning
+pub mod Filling
+pub mod Checking

@@ -9,7 +9,7 @@ use borrow.Author.Tests.{eq-eqb, ne-eqb, eqb-true}
 use lib.Dec.{eqb}
 use lib.ListN.{length, getD, take}
 use Rattle.format.specs.Rules.{among}
-use Rattle.telegram.specs.Machine.{packetsIn}
+use Rattle.telegram.specs.Seen.{packetsIn}
 
 both-false : (a b : Bool) → (a ≡ true → b ≡ true → ⊥) → (a && b) ≡ false
 both-false true true n = absurd (n refl refl)

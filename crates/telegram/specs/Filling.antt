@@ -1,7 +1,7 @@
 -- What the second run of the reader goes by: bits that are an accepted telegram. Definitions alone.
-use Prim.Native.Nat.{ℕ, _*_, _≤_}
 use mathlib.Core.Path.{_≡_}
 use mathlib.Core.List.{List}
+use Prim.Native.Nat.{ℕ, _*_, _≤_}
 use lib.ListN.{length, take}
 use Rattle.bits.specs.Bits.{bitsOf}
 use Rattle.format.specs.Rules.{paper}

@@ -1,4 +1,5 @@
 -- What the reader promises; and what the machine's state stands for, and each of its functions promises.
 pub mod Reader
 pub mod Machine
+pub mod Seen
 pub mod Filling

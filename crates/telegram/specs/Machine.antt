@@ -3,7 +3,7 @@ use mathlib.Core.Path.{_≡_}
 use mathlib.Core.Bool.{true, false, Bool, cond}
 use mathlib.Core.List.{List, [], _∷_}
 use mathlib.Core.Option.{Option, some, none}
-use Prim.Native.Nat.{ℕ, suc, _+_, _/_, _%_, _^_, _<_, _≤_}
+use Prim.Native.Nat.{ℕ, suc, _+_, _^_, _<_, _≤_}
 use lib.Dec.{eqb}
 use lib.ListN.{getD}
 use Rattle.format.specs.Fields.{Rule, Sense}
@@ -204,18 +204,9 @@ pub record Beginning (r : State) : Type 0 where
   pub right : view [] r ≡ begun
   pub sound : Sound r
 
--- ---- packets that came before
-
-abbrev pub packetIn : ℕ → Earlier
-packetIn x = record { id = x / 4; dir = x % 4 }
-
-abbrev pub packetsIn : List ℕ → List Earlier
-packetsIn [] = []
-packetsIn (x ∷ xs) = packetIn x ∷ packetsIn xs
-
 -- ---- the Q_DIR of a packet
 
--- whether the Q_DIR of a packet is due, at which packets collide and one more is noted
+-- whether the Q_DIR of a packet is due: there packets collide, and one more is noted
 pub record Directing (s : State) (r : Bool) : Type 0 where
   pub yes : r ≡ true → (ruleAt (s .todo .node) ≡ direction) × (s .level ≡ Packet) × (fieldAt (s .todo .node) .width ≡ 2)
-  pub no : r ≡ false → (l : List Earlier) (v : ℕ) → earlierAfter l s v ≡ l
+  pub no : r ≡ false → (ruleAt (s .todo .node) ≡ direction) → s .level ≡ Packet → ⊥

@@ -1,8 +1,8 @@
 -- Document 01: what the reader and the check answer, and what the lent run of values then holds. Definitions alone.
-use Prim.Native.Nat.{ℕ}
 use mathlib.Core.Path.{_≡_}
-use mathlib.Core.Bool.{Bool, true, false, cond, _&&_}
+use mathlib.Core.Bool.{Bool, cond, _&&_}
 use mathlib.Core.List.{List, _++_}
+use Prim.Native.Nat.{ℕ}
 use lib.Dec.{eqb, leb}
 use lib.ListN.{length, take, drop}
 use Rattle.bits.specs.Bits.{valueOf, bitsOf, bytesFor}

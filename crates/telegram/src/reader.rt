@@ -11,7 +11,8 @@ ghost use Rattle.telegram.specs.Reader.{sized, clear, checked, answerOf,
 ghost use Rattle.format.specs.declared.Answer.the-variants.{Refused};
 ghost use Rattle.telegram.specs.Machine.{InTable, Directing};
 ghost use Rattle.telegram.specs.Filling.{Filling, Filled};
-use crate::earlier::collides;
+use crate::earlier::note;
+use crate::earlier::repeated;
 use crate::machine::Outcome;
 use crate::machine::step;
 use crate::rows::DIRECTION;
@@ -128,11 +129,7 @@ fn scan(s: &[u8], n: usize) -> Answer
             return refuse(Kind::Ended, place(Kind::Ended, st, 0));
         };
         let directs = directing(&rows, st);
-        let twice = if directs {
-            collides(&seen, met, st.id, v)
-        } else {
-            false
-        };
+        let twice = repeated(&seen, met, directs, st, v);
         match step(&rows, st, v, twice) {
             Outcome::Breaks(kind) => {
                 return refuse(kind, place(kind, st, v));
@@ -144,10 +141,7 @@ fn scan(s: &[u8], n: usize) -> Answer
                 return refuse(Kind::Trailing, place(Kind::Trailing, st, v));
             }
             Outcome::Go(after) => {
-                if directs {
-                    seen[met] = (4 * st.id + v) as u16;
-                    met += 1;
-                }
+                met = note(&mut seen, met, directs, st, v);
                 st = after;
                 c = next;
                 count += 1;

@@ -7,7 +7,7 @@ use native.Mathlib.Omega.{arith}
 use borrow.Author.Needs.{needs}
 use lib.ListN.{length, take}
 use Rattle.format.specs.Rules.{among}
-use Rattle.telegram.specs.Machine.{packetsIn}
+use Rattle.telegram.specs.Seen.{packetsIn}
 use Rattle.telegram.proofs.Seen.{met, unmet, told, none-told}
 use Rattle.telegram.proofs.earlier.collides.Statement.{statement}
 use Rattle.telegram.proofs.earlier.collides.Tie as tie

@@ -1,0 +1,279 @@
+-- The second run of the reader: what it has stored, and that the fields it takes are the entries of the telegram. Assumes nothing.
+use mathlib.Core.Path.{_≡_, refl, sym, ap, _∙_, subst}
+use mathlib.Core.List.{List, [], _∷_, _++_, append-nil, append-assoc}
+use mathlib.Core.Option.{some, none}
+use Prim.Native.Nat.{ℕ, suc, _+_, _-_, _*_, _^_, _<_, _≤_}
+use native.Mathlib.Nat.{add-zero}
+use native.Mathlib.Numerals.{add-one, one-add}
+use native.Mathlib.Omega.{arith}
+use lib.ListN.{length, take, drop, set, length-append, length-drop, length-set}
+use lib.Seq.{take-at, drop-at, length-take-le, take-add, take-take, drop-drop, set-split, take-suc-set, drop-set-lt}
+use Rattle.bits.specs.Bits.{digits, valueOf, bitsOf}
+use Rattle.bits.specs.Take.{fieldBits, takeAt}
+use Rattle.bits.specs.declared.Cursor.{Cursor}
+use Rattle.bits.specs.declared.Taken.{Taken}
+use Rattle.bits.specs.declared.Taken.the-variants.{Field, Short}
+use Rattle.bits.proofs.Bytes.{length-bitsOf}
+use Rattle.bits.proofs.Digits.{length-digits, valueOf-digits}
+use Rattle.bits.proofs.Fields.{IsField, taken, take-whole}
+use Rattle.format.specs.Packets.{Items, find, etcs}
+use Rattle.format.specs.Packets.Items.{end}
+use Rattle.format.specs.Rules.{State, paper, begun, due, field, past, moved, next, step}
+use Rattle.format.specs.Rules.Next.{over}
+use Rattle.format.specs.Table.{fieldAt, rowAt}
+use Rattle.format.specs.Telegrams.{Entry, entry, bits, values, valuesIn, Fits, Run, Telegram}
+use Rattle.format.specs.Telegrams.Result.{accepted}
+use Rattle.format.specs.Telegrams.Run.{last, more}
+use Rattle.format.proofs.Rows.{header-at}
+use Rattle.laws.proofs.Sources.{bitsIn-entry, width-positive}
+use Rattle.laws.proofs.Steps.{go-next, over-mark}
+use Rattle.laws.proofs.Prefix.{bits-no-prefix}
+use Rattle.telegram.specs.Machine.{todoOf, itemsOf, Tidy, TidyOn, Advanced}
+use Rattle.telegram.specs.Filling.{Filling, Filled}
+use Rattle.telegram.specs.Reader.{valuesOver}
+use Rattle.telegram.specs.declared.todo.Todo.{Todo}
+use Rattle.telegram.specs.declared.todo.Ahead.{Ahead}
+use Rattle.telegram.specs.declared.todo.Ahead.the-variants.{On, Mark}
+use Rattle.telegram.proofs.Moves.{due-right, start-todo}
+use Rattle.telegram.proofs.Stepping.{width-in}
+
+-- ---- the first entry of a run
+
+-- from a state on, where u is to be sent
+record Goes (q : State) (u : Items) (rest : List Entry) : Type 0 where
+  state : State
+  here : state .at ≡ past q
+  todo : state .todo ≡ u
+  run : Run paper state rest
+
+-- a run has a first entry: it is the last if nothing is next, and else the run goes on with what is
+record Held (q : State) (left : List Entry) : Type 0 where
+  value : ℕ
+  rest : List Entry
+  fits : Fits q value
+  front : left ≡ entry q value ∷ rest
+  mark : next (q .todo) value ≡ none → rest ≡ []
+  goes : (u : Items) → next (q .todo) value ≡ some u → Goes q u rest
+
+mark-last : next end 255 ≡ none
+unfolding next find etcs
+mark-last = refl
+
+over-next : (q : State) (v : ℕ) → step paper q v ≡ over → next (q .todo) v ≡ none
+over-next q v e = let m = over-mark paper q v e in rw (m .0, m .1) mark-last
+
+held : {q : State} {left : List Entry} → Run paper q left → Held q left
+held (last {s = q} {v = v} f e) =
+    let n = over-next q v e in
+    record {
+      value = v;
+      rest = [];
+      fits = f;
+      front = refl;
+      mark = λ h. refl;
+      goes = λ u h. let z : _≡_ {A = ℕ} 0 1 = cc in absurd (omega arith);
+    }
+held (more {s = q} {v = v} {t = t} {c = c} {es = es} f e r) =
+    let n = go-next paper q v t c e in
+    record {
+      value = v;
+      rest = es;
+      fits = f;
+      front = refl;
+      mark = λ h. cc;
+      goes = λ u h. record { state = moved q t c; here = refl; todo = cc; run = r };
+    }
+
+-- ---- the bits in front
+
+-- the w bits of the number v in front of what is left of the first n
+module _ (s : List ℕ) (n at w v : ℕ) (rest : List ℕ) (l : n ≤ 8 * length s) (pos : 0 < w)
+    (e : drop at (take n (bitsOf s)) ≡ digits w v ++ rest) where
+  front-within : at + w ≤ n
+  front-within =
+      let h : length (take n (bitsOf s)) - at ≡ w + length rest =
+      sym (length-drop at (take n (bitsOf s))) ∙ ap length e ∙ length-append (digits w v) rest ∙ ap (λ k. k + length rest) (length-digits w v) in
+      let k : length (take n (bitsOf s)) ≡ n = length-take-le n (bitsOf s) (rw (length-bitsOf s) l) in
+      omega arith
+
+  front-rest : drop (at + w) (take n (bitsOf s)) ≡ rest
+  front-rest = sym (drop-drop w at (take n (bitsOf s))) ∙ ap (drop w) e ∙ drop-at (digits w v) rest w (length-digits w v)
+
+  front-drop : drop at (take n (bitsOf s)) ≡ take (n - at) (drop at (bitsOf s))
+  front-drop =
+      let h = front-within in
+      let m : at + (n - at) ≡ n = omega arith in
+      ap (drop at) (sym (ap (λ k. take k (bitsOf s)) m) ∙ take-add at (n - at) (bitsOf s))
+      ∙ drop-at (take at (bitsOf s)) (take (n - at) (drop at (bitsOf s))) at (length-take-le at (bitsOf s) (rw (length-bitsOf s) (omega arith)))
+
+  front-value : v < 2 ^ w → valueOf (fieldBits s w at) ≡ v
+  front-value small =
+      let h = front-within in
+      ap valueOf
+      (sym (take-take w (n - at) (drop at (bitsOf s)) (omega arith)) ∙ ap (take w) (sym front-drop ∙ e) ∙ take-at (digits w v) rest w (length-digits w v))
+      ∙ valueOf-digits w v small
+
+-- ---- the run of values
+
+-- what is stored before i, the values xs from there on, and behind them what is there
+abbrev stored : List ℕ → List ℕ → ℕ → List ℕ
+stored out xs i = take i out ++ (xs ++ drop (length xs + i) out)
+
+stored-more : (out xs : List ℕ) (i v : ℕ) → i < length out → stored out (v ∷ xs) i ≡ stored (set out i v) xs (i + 1)
+stored-more out xs i v l =
+    rw (
+      add-one i,
+      take-suc-set out i v l,
+      drop-set-lt (length xs + suc i) out i v (omega arith),
+      append-assoc (take i out) (v ∷ []) (xs ++ drop (length xs + suc i) out),
+    )
+    (ap (λ (k : ℕ). take i out ++ (v ∷ (xs ++ drop k out))) further)
+  where
+    further : length (v ∷ xs) + i ≡ length xs + suc i
+    further = omega arith
+
+stored-last : (out : List ℕ) (i v : ℕ) → i < length out → stored out (v ∷ []) i ≡ set out i v
+stored-last out i v l = rw (one-add i) (sym (set-split out i v l))
+
+-- ---- a turn
+
+-- before a field: with the values that are left stored from i on, the run is what is promised
+pub record Going (s : List ℕ) (n : ℕ) (before out : List ℕ) (t : Todo) (at i : ℕ) : Type 0 where
+  -- the telegram
+  pub entries : List Entry
+  pub telegram : Telegram paper entries
+  pub same : take n (bitsOf s) ≡ bits entries
+  pub within : n ≤ 8 * length s
+  -- what is left of it
+  pub left : List Entry
+  pub state : State
+  pub run : Run paper state left
+  pub here : state .at ≡ at
+  pub todo : state .todo ≡ todoOf t
+  pub tidy : Tidy t
+  pub ahead : drop at (take n (bitsOf s)) ≡ bits left
+  -- and what is stored
+  pub holds : valuesOver (accepted entries) before ≡ stored out (values left) i
+  pub count : i ≤ at
+  pub size : length out ≡ length before
+  pub room : 830 ≤ length before
+
+-- before the first field
+pub going-first : (s : List ℕ) (n : ℕ) (out : List ℕ) → Filling s n out
+    → Going s n out out (record { node = 1; left = 0; outer = 0 }) 0 0
+unfolding begun rowAt
+going-first s n out f =
+    record {
+      entries = f .entries;
+      telegram = f .telegram;
+      same = f .same;
+      within = f .within;
+      left = f .entries;
+      state = begun;
+      run = f .telegram;
+      here = refl;
+      todo = sym (start-todo 1 refl ∙ header-at);
+      tidy = record { inside = omega arith; settled = λ e. refl };
+      ahead = f .same;
+      holds = ap (λ (k : ℕ). values (f .entries) ++ drop k out) (sym (add-zero (length (values (f .entries)))));
+      count = omega arith;
+      size = refl;
+      room = f .room;
+    }
+
+module _ {s : List ℕ} {n : ℕ} {before out : List ℕ} {t : Todo} {at i : ℕ} (g : Going s n before out t at i) where
+  abbrev first : Held (g .state) (g .left)
+  first = held (g .run)
+
+  -- the telegram in hand is any with these bits
+  filled-by : (after : List ℕ) → after ≡ valuesOver (accepted (g .entries)) before → Filled s n before after
+  filled-by after h es tel e =
+      let one = bits-no-prefix paper tel (g .telegram) [] (append-nil (bits es) ∙ sym e ∙ g .same) in
+      h ∙ ap (λ x. valuesOver (accepted x) before) (sym (one .0))
+
+  module _ {w : ℕ} (ew : w ≡ fieldAt (t .node) .width) where
+    width-due : field (g .state) .width ≡ w
+    width-due = ap (λ x. due x .width) (g .todo) ∙ ap (λ x. x .width) (sym (due-right t (g .tidy))) ∙ sym ew
+
+    positive : 0 < w
+    positive = rw ew (width-positive (fieldAt (t .node)))
+
+    narrow : w ≤ 64
+    narrow = rw ew (width-in (fieldAt (t .node)))
+
+    bits-front : drop at (take n (bitsOf s)) ≡ digits w (first .value) ++ bits (first .rest)
+    bits-front =
+        g .ahead ∙ ap bits (first .front)
+        ∙ ap (λ x. x ++ bits (first .rest)) (bitsIn-entry (g .state) (first .value) ∙ ap (λ k. digits k (first .value)) width-due)
+
+    inside : at + w ≤ n
+    inside = front-within s n at w (first .value) (bits (first .rest)) (g .within) positive bits-front
+
+    -- no field ends past bit 830
+    pub low : at + w ≤ 830
+    low = rw (← width-due, ← (g .here)) (first .fits .room)
+
+    -- and the run has room for its value
+    pub in-out : i < length out
+    in-out = omega (arith, low, positive, g .count, g .size, g .room)
+
+    -- what taking it answers
+    module _ {r : Taken} (er : r ≡ takeAt s n w at) where
+      -- a whole field is there
+      pub never-short : r ≡ Short → ⊥
+      never-short e =
+          let h = take-whole s n w at narrow inside (g .within) in
+          let z : _≡_ {A = ℕ} 0 1 = cc in omega arith
+
+      module _ {v : ℕ} {d : Cursor} (ed : r ≡ Field v d) where
+        is-field : IsField s n w at v (d .at)
+        is-field = taken s n w at v d (sym er ∙ ed)
+
+        -- the measure
+        pub less : n - d .at < n - at
+        less = let f = is-field in let p = positive in omega (arith, f .past, f .within)
+
+        -- it is the entry's value
+        value-is : v ≡ first .value
+        value-is =
+            is-field .value
+            ∙ front-value s n at w (first .value) (bits (first .rest)) (g .within) positive bits-front
+            (subst (λ k. first .value < 2 ^ k) width-due (first .fits .small))
+
+        values-front : values (g .left) ≡ v ∷ values (first .rest)
+        unfolding valuesIn
+        values-front = ap values (first .front) ∙ ap (λ x. x ∷ values (first .rest)) (sym value-is)
+
+        -- what the rows say is next is what is
+        items-next : (x : Ahead) → Advanced t v x → next (g .state .todo) (first .value) ≡ itemsOf x
+        items-next x a = ap (λ y. next y (first .value)) (g .todo) ∙ ap (next (todoOf t)) (sym value-is) ∙ a .items
+
+        -- after the end mark every value is stored
+        pub fills : {x : Ahead} → Advanced t v x → x ≡ Mark → Filled s n before (set out i v)
+        fills {x} a m =
+            let ends : first .rest ≡ [] = first .mark (items-next x a ∙ ap itemsOf m) in
+            filled-by (set out i v)
+            (sym (g .holds ∙ ap (λ y. stored out y i) (values-front ∙ ap (λ y. v ∷ values y) ends) ∙ stored-last out i v in-out))
+
+        -- after another field the run goes on
+        pub goes-further : {x : Ahead} {u : Todo} → Advanced t v x → x ≡ On u → Going s n before (set out i v) u (d .at) (i + 1)
+        goes-further {x} {u} a m =
+            let go = first .goes (todoOf u) (items-next x a ∙ ap itemsOf m) in
+            let f = is-field in
+            record {
+              entries = g .entries;
+              telegram = g .telegram;
+              same = g .same;
+              within = g .within;
+              left = first .rest;
+              state = go .state;
+              run = go .run;
+              here = go .here ∙ rw (width-due, g .here, f .past);
+              todo = go .todo;
+              tidy = subst TidyOn m (a .tidy);
+              ahead = rw (f .past) (front-rest s n at w (first .value) (bits (first .rest)) (g .within) positive bits-front);
+              holds = g .holds ∙ ap (λ y. stored out y i) values-front ∙ stored-more out (values (first .rest)) i v in-out;
+              count = omega (arith, f .past, positive, g .count);
+              size = length-set out i v ∙ g .size;
+              room = g .room;
+            }
