@@ -3,3 +3,4 @@ pub mod Reader
 pub mod Machine
 pub mod Seen
 pub mod Filling
+pub mod Writer

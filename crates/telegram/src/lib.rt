@@ -6,6 +6,7 @@ mod rows;
 mod state;
 mod todo;
 mod verdict;
+mod writer;
 
 pub use reader::check;
 pub use reader::read;
