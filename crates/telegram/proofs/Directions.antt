@@ -1,25 +1,26 @@
 -- The Q_DIR of packets: when one is due, whether it collides, and how it is kept. Assumes nothing.
-use mathlib.Core.Path.{_≡_, refl, sym, ap, _∙_}
-use mathlib.Core.Bool.{Bool, true, false, not, _&&_, _||_}
+use mathlib.Core.Path.{_≡_, refl, sym, ap, _∙_, subst}
+use mathlib.Core.Bool.{cond, Bool, true, false, not, _&&_, _||_}
 use mathlib.Core.List.{List, [], _∷_, _++_}
-use Prim.Native.Nat.{ℕ, _+_, _*_, _/_, _%_, _<_}
+use Prim.Native.Nat.{ℕ, _^_, _≤_, _+_, _*_, _/_, _%_, _<_}
 use native.Mathlib.Omega.{arith}
 use native.Mathlib.Numerals.{add-one}
 use lib.Dec.{eqb}
-use lib.ListN.{length, take, set}
+use lib.ListN.{length, take, set, length-set}
 use lib.Seq.{take-suc-set}
 use Rattle.format.specs.Fields.{Rule, Sense}
 use Rattle.format.specs.Fields.Rule.{any, packet, user, direction, size, pig, total, radio, within}
 use Rattle.format.specs.Fields.Sense.{plain, scale, distance, textLength}
-use Rattle.format.specs.Rules.{Earlier, Context, ruleOf, noted, among, sameAsEarlier}
+use Rattle.format.specs.Rules.{Earlier, Context, ruleOf, noted, among, sameAsEarlier, paper}
 use Rattle.format.specs.Rules.Level.{inHeader, inPacket, inUser}
 use Rattle.format.specs.Table.{fieldAt, codeOf}
 use Rattle.format.proofs.Rows.{direction-width}
-use Rattle.telegram.specs.Machine.{contextOf, levelOf, ruleAt, earlierAfter, Directing}
-use Rattle.telegram.specs.Seen.{packetsIn, Same, Held}
+use Rattle.telegram.specs.Machine.{contextOf, levelOf, ruleAt, earlierAfter, Directing, Stepped}
+use Rattle.telegram.specs.Seen.{packetsIn, Same, Held, Repeated, Passed, Noticed}
 use Rattle.telegram.specs.declared.state.Level.{Level}
 use Rattle.telegram.specs.declared.state.Level.the-variants.{Header, Packet, User}
 use Rattle.telegram.specs.declared.state.State.{State}
+use Rattle.telegram.specs.declared.machine.Outcome.{Outcome}
 use Rattle.telegram.proofs.Senses.{rule-direction}
 use Rattle.format.specs.Rules as rules
 
@@ -154,3 +155,34 @@ same-after before n true s v r after l d h f same g =
     let id-is : (4 * s .id + v) / 4 ≡ s .id = omega arith in
     let dir-is : (4 * s .id + v) % 4 ≡ v = omega arith in
     rw (earlier-grown s l v d, g .contents, g .count, add-one n, take-suc-set before n (4 * s .id + v) h, among-last i x (4 * s .id + v) (take n before), id-is, dir-is, same i x k)
+
+-- ---- a driver's turn
+
+-- the value of a packet's Q_DIR
+pub dir-small : (s : State) (v : ℕ) (b : Bool) → Directing s b → v < 2 ^ fieldAt (s .todo .node) .width → b ≡ true → v < 4
+dir-small s v b d h e = subst (λ (x : ℕ). v < 2 ^ x) (d .yes e .2) h
+
+pub passes : (seen : List ℕ) (n : ℕ) (s : State) (v : ℕ) (b twice : Bool) (r : Outcome) → Directing s b → Repeated seen n b s v twice
+    → Stepped s v twice r → Passed seen n s v r
+passes seen n s v b twice r d rep o = record { right = λ l same. o .right paper l (told l same b refl); goes = o .kept }
+  where
+    told : (l : List Earlier) → Same seen n l → (x : Bool) → b ≡ x → ruleAt (s .todo .node) ≡ direction → s .level ≡ Packet
+        → sameAsEarlier (contextOf l s) v ≡ twice
+    told l same true e k h = rep e l same
+    told l same false e k h = absurd (d .no e k h)
+
+pub notices : (before : List ℕ) (n : ℕ) (s : State) (v : ℕ) (b : Bool) (r : ℕ) (after : List ℕ) → Directing s b → n < length before
+    → v < 2 ^ fieldAt (s .todo .node) .width → Held before n b s v r after → Noticed before n s v r after
+notices before n s v b r after d h fits g = record {
+  same = λ l same. same-after before n b s v r after l d h (dir-small s v b d fits) same g;
+  few = few b refl;
+  long = rw (g .contents) (long b);
+}
+  where
+    few : (x : Bool) → b ≡ x → 2 * r ≤ 2 * n + fieldAt (s .todo .node) .width
+    few true e = let y = d .yes e .2 in let k : r ≡ n + 1 = g .count ∙ ap (λ (x : Bool). cond x (n + 1) n) e in omega arith
+    few false e = let k : r ≡ n = g .count ∙ ap (λ (x : Bool). cond x (n + 1) n) e in omega arith
+
+    long : (x : Bool) → length (cond x (set before n (4 * s .id + v)) before) ≡ length before
+    long true = length-set before n (4 * s .id + v)
+    long false = refl

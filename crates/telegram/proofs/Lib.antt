@@ -6,6 +6,7 @@ pub mod Noting
 pub mod Seen
 pub mod Stepping
 pub mod Directions
+pub mod Driving
 pub mod Scanning
 pub mod Filling
 pub mod Checking

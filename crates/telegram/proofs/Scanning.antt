@@ -1,4 +1,4 @@
--- What the loop that checks a telegram goes by. Assumes nothing.
+-- What the loop that checks a telegram goes by: the driver over bits, each taken through the cursor. Assumes nothing.
 use mathlib.Core.Path.{_≡_, refl, sym, ap, _∙_, subst}
 use mathlib.Core.Bool.{Bool, true, false, cond}
 use mathlib.Core.List.{List, [], _∷_, _++_, append-assoc}
@@ -42,6 +42,9 @@ use Rattle.telegram.proofs.Stepping.{width-in}
 use Rattle.telegram.proofs.Directions.{same-after}
 use Rattle.format.specs.Fields as fields
 use Rattle.format.specs.Rules as rules
+use Rattle.telegram.specs.Seen.{Passed, Noticed}
+use Rattle.telegram.proofs.Driving.{Drives, result, drives-first, due-is, here, refused-lacking, refused-broken, accepted-mark, refused-trailing, mark-counted, moves, drives-on}
+use Rattle.laws.proofs.Sources.{Sent, from-bits, width-positive}
 
 -- all bits from n on
 pub rest-is : (s : List ℕ) (n w : ℕ) → 8 * length s ≤ n + w → fieldBits s w n ≡ drop n (bitsOf s)
@@ -71,244 +74,128 @@ lacks-bits : (q : rules.State) (f : fields.Field) (xs : List ℕ) → rules.fiel
 unfolding fromBits
 lacks-bits q f xs e h = rw (e, lt-leb (f .width) (length xs) h)
 
--- ---- one turn of the driver, whatever its bound
+-- the bits of the telegram
+abbrev pub telegramBits : List ℕ → ℕ → List ℕ
+telegramBits s n = take n (bitsOf s)
 
-drive-lacking : (k : ℕ) (q : rules.State) (xs : List ℕ) → fromBits q xs ≡ lacks Ended
-    → drive paper fromBits k q xs ≡ stopped (refusal paper Ended q 0)
-unfolding drive
-drive-lacking zero q xs e = refl
-drive-lacking (suc k) q xs e = one-lacking paper fromBits k q xs Ended e
+abbrev pub BitDrives : List ℕ → ℕ → List ℕ → List ℕ → ℕ → State → ℕ → Type 0
+BitDrives s n rows seen met st count =
+    Drives fromBits bitsIn Sent from-bits (telegramBits s n) rows seen met st count (drop (st .at) (telegramBits s n))
 
-drive-broken : (k : ℕ) (q : rules.State) (xs ys : List ℕ) (v : ℕ) (x : Kind) → 0 < k → fromBits q xs ≡ got v ys → step paper q v ≡ breaks x
-    → drive paper fromBits k q xs ≡ stopped (refusal paper x q v)
-drive-broken zero q xs ys v x h e b = absurd (omega arith)
-drive-broken (suc k) q xs ys v x h e b = one-broken paper fromBits k q xs v ys x e b
+-- where a field begins: the driver over the bits from here on, and the cursor there
+pub record Scans (s : List ℕ) (n : ℕ) (rows seen : List ℕ) (met : ℕ) (st : State) (c : Cursor) (count : ℕ) : Type 0 where
+  pub low : n ≤ 830
+  pub wide : n ≤ 8 * length s
+  pub drives : BitDrives s n rows seen met st count
+  pub here : c .at ≡ st .at
+  pub within : st .at ≤ n
+  pub few : count ≤ st .at
 
-drive-mark : (k : ℕ) (q : rules.State) (xs ys : List ℕ) (v : ℕ) → 0 < k → fromBits q xs ≡ got v ys → step paper q v ≡ over
-    → drive paper fromBits k q xs ≡ ended (entry q v ∷ []) q ys
-drive-mark zero q xs ys v h e b = absurd (omega arith)
-drive-mark (suc k) q xs ys v h e b = one-mark paper fromBits k q xs v ys e b
+length-telegram : (s : List ℕ) (n : ℕ) → n ≤ 8 * length s → length (telegramBits s n) ≡ n
+length-telegram s n wide = length-take-le n (bitsOf s) (rw (length-bitsOf s) wide)
 
--- ---- the values of one entry more
+sent-bits : (s : List ℕ) (n : ℕ) → n ≤ 830 → n ≤ 8 * length s → Sent begun (telegramBits s n)
+unfolding begun
+sent-bits s n low wide =
+    record { bits = below-take 2 n (bitsOf s) (below-bitsOf s); room = let l = length-telegram s n wide in omega arith }
 
-all-append : (part : Entry → List ℕ) (a b : List Entry) → all part (a ++ b) ≡ all part a ++ all part b
-all-append part [] b = refl
-all-append part (x ∷ a) b = rw (all-append part a b, append-assoc)
+pub scans-first : {s : List ℕ} {n : ℕ} {rows seen : List ℕ} {st : State} → n ≤ 830 → n ≤ 8 * length s → rows ≡ words → length seen ≡ 416
+    → Beginning st → Scans s n rows seen 0 st (record { at = 0 }) 0
+unfolding begun
+scans-first {s} {n} {rows} {seen} {st} low wide t h b =
+    let z : st .at ≡ 0 = ap (λ (q : rules.State). q .at) (b .right) in
+    record {
+      low = low;
+      wide = wide;
+      drives = drives-first fromBits bitsIn Sent from-bits (telegramBits s n) t h b (sent-bits s n low wide) (rw z);
+      here = sym z;
+      within = omega arith;
+      few = omega arith;
+    }
 
-pub one-more : (es : List Entry) (e : Entry) → length (values (es ++ (e ∷ []))) ≡ length (values es) + 1
-unfolding valuesIn
-one-more es e = rw (all-append valuesIn es (e ∷ []), length-append (values es) (e .value ∷ []))
-
-module _ (s : List ℕ) (n : ℕ) (low : n ≤ 830) (wide : n ≤ 8 * length s) where
-  -- the bits of the telegram
+module _ {s : List ℕ} {n : ℕ} {rows seen : List ℕ} {met : ℕ} {st : State} {c : Cursor} {count : ℕ} (i : Scans s n rows seen met st c count)
+    {w : ℕ} (ew : w ≡ fieldAt (st .todo .node) .width) {t : Taken} (e : t ≡ takeAt s n w (c .at)) where
   abbrev bs : List ℕ
-  bs = take n (bitsOf s)
+  bs = telegramBits s n
 
-  length-bs : length bs ≡ n
-  length-bs = length-take-le n (bitsOf s) (rw (length-bitsOf s) wide)
+  abbrev q : rules.State
+  q = view (i .drives .earlier) st
 
-  -- what the loop knows where it begins a field: the definition goes on from here, after the entries so far
-  pub record Scans (rows seen : List ℕ) (met : ℕ) (st : State) (c : Cursor) (count : ℕ) : Type 0 where
-    pub table : rows ≡ words
-    pub entries : List Entry
-    pub earlier : List Earlier
-    pub goes : drive paper fromBits (length bs) begun bs
-        ≡ pushes entries (drive paper fromBits (length (drop (st .at) bs)) (view earlier st) (drop (st .at) bs))
-    pub sound : Sound st
-    pub here : c .at ≡ st .at
-    pub within : st .at ≤ n
-    pub counts : count ≡ length (values entries)
-    pub few : count ≤ st .at
-    pub noted : 2 * met ≤ st .at
-    pub long : length seen ≡ 416
-    pub same : Same seen met earlier
+  field-is : rules.field q ≡ fieldAt (st .todo .node)
+  field-is = due-is fromBits bitsIn Sent from-bits bs (i .drives)
 
-  from-start : (k : ℕ) (q : rules.State) → k ≡ 0 → q ≡ begun
-      → drive paper fromBits (length bs) begun bs ≡ drive paper fromBits (length (drop k bs)) q (drop k bs)
-  from-start k q z e = rw (z, e)
+  length-rest : length (drop (st .at) bs) ≡ n - st .at
+  length-rest = rw (length-drop (st .at) bs, length-telegram s n (i .wide))
 
-  -- where it begins
-  pub scans-first : (rows seen : List ℕ) (st : State) → rows ≡ words → length seen ≡ 416 → Beginning st
-      → Scans rows seen 0 st (record { at = 0 }) 0
-  unfolding begun among
-  scans-first rows seen st t h b =
-      let z : st .at ≡ 0 = ap (λ (q : rules.State). q .at) (b .right) in
-      record {
-        table = t;
-        entries = [];
-        earlier = [];
-        goes = from-start (st .at) (view [] st) z (b .right);
-        sound = b .sound;
-        here = sym z;
-        within = omega arith;
-        counts = refl;
-        few = omega arith;
-        noted = omega arith;
-        long = h;
-        same = λ i d l. refl;
-      }
+  -- no whole field is left
+  lacks-field : t ≡ Short → fromBits q (drop (st .at) bs) ≡ lacks Ended
+  lacks-field h = by (decLe (c .at + w) n)
+    where
+      by : Dec (c .at + w ≤ n) → fromBits q (drop (st .at) bs) ≡ lacks Ended
+      by (yes k) = never-short t _ _ h (e ∙ take-whole s n w (c .at) (rw ew (width-in (fieldAt (st .todo .node)))) k (i .wide))
+      by (no k) =
+          let l = lt-of-not-le k in
+          lacks-bits q (fieldAt (st .todo .node)) (drop (st .at) bs) field-is (rw length-rest (omega (arith, i .here, i .within)))
 
-  module _ (rows seen : List ℕ) (met : ℕ) (st : State) (c : Cursor) (count : ℕ) (i : Scans rows seen met st c count) where
-    -- the field that is due, as the definition has it
-    due-is : due (todoOf (st .todo)) ≡ fieldAt (st .todo .node)
-    due-is = sym (due-right (st .todo) (i .sound .tidy))
+  pub ends-short : t ≡ Short → {place : ℕ} → ((l : List Earlier) → place ≡ packetPlace Ended (view l st) 0)
+      → read paper bs ≡ refused (record { kind = Ended; place = place })
+  unfolding read
+  ends-short h pl = refused-lacking fromBits bitsIn Sent from-bits bs (i .drives) (lacks-field h) pl
 
-    length-rest : length (drop (st .at) bs) ≡ n - st .at
-    length-rest = rw (length-drop (st .at) bs, length-bs)
+  module _ {v : ℕ} {next : Cursor} (h : t ≡ Field v next) where
+    is-field : IsField s n w (c .at) v (next .at)
+    is-field = taken s n w (c .at) v next (sym e ∙ h)
 
-    module _ (t : Taken) (e : t ≡ takeAt s n (fieldAt (st .todo .node) .width) (c .at)) where
-      abbrev w : ℕ
-      w = fieldAt (st .todo .node) .width
+    pub fits : v < 2 ^ fieldAt (st .todo .node) .width
+    fits = rw (← ew) (is-field .small)
 
-      -- no whole field is left
-      pub lacks-field : t ≡ Short → fromBits (view (i .earlier) st) (drop (st .at) bs) ≡ lacks Ended
-      lacks-field h = by (decLe (c .at + w) n)
-        where
-          by : Dec (c .at + w ≤ n) → fromBits (view (i .earlier) st) (drop (st .at) bs) ≡ lacks Ended
-          by (yes k) = never-short t _ _ h (e ∙ take-whole s n w (c .at) (width-in (fieldAt (st .todo .node))) k wide)
-          by (no k) =
-              let l = lt-of-not-le k in
-              lacks-bits (view (i .earlier) st) (fieldAt (st .todo .node)) (drop (st .at) bs) due-is
-              (rw length-rest (omega (arith, i .here, i .within)))
+    value-is : valueOf (take w (drop (st .at) bs)) ≡ v
+    value-is =
+        let g = is-field .within in
+        ap valueOf (inside-take (bitsOf s) n (st .at) w (omega (arith, i .here)) (rw (length-bitsOf s) (i .wide)) ∙ ap (fieldBits s w) (sym (i .here)))
+        ∙ sym (is-field .value)
 
-      module _ (v : ℕ) (next : Cursor) (h : t ≡ Field v next) where
-        pub is-field : IsField s n w (c .at) v (next .at)
-        is-field = taken s n w (c .at) v next (sym e ∙ h)
+    has-field : fromBits q (drop (st .at) bs) ≡ got v (drop (st .at + w) bs)
+    has-field =
+        let g = is-field .within in
+        has-bits q (fieldAt (st .todo .node)) (drop (st .at) bs) field-is (rw length-rest (omega (arith, i .here, i .within)))
+        ∙ rw (← ew, value-is, drop-drop w (st .at) bs)
 
-        value-is : valueOf (take w (drop (st .at) bs)) ≡ v
-        value-is =
-            let g = is-field .within in
-            ap valueOf (inside-take (bitsOf s) n (st .at) w (omega (arith, i .here)) (rw (length-bitsOf s) wide) ∙ ap (fieldBits s w) (sym (i .here)))
-            ∙ sym (is-field .value)
+    module _ {out : Outcome} (o : Passed seen met st v out) where
+      pub ends-broken : {k : Kind} → out ≡ Breaks k → {place : ℕ} → ((l : List Earlier) → place ≡ packetPlace k (view l st) v)
+          → read paper bs ≡ refused (record { kind = k; place = place })
+      unfolding read
+      ends-broken b pl = refused-broken fromBits bitsIn Sent from-bits bs (i .drives) has-field o b pl
 
-        pub has-field : fromBits (view (i .earlier) st) (drop (st .at) bs) ≡ got v (drop (st .at + w) bs)
-        has-field =
-            let g = is-field .within in
-            has-bits (view (i .earlier) st) (fieldAt (st .todo .node)) (drop (st .at) bs) due-is (rw length-rest (omega (arith, i .here, i .within)))
-            ∙ rw (value-is, drop-drop w (st .at) bs)
+      pub ends-well : out ≡ Over → next .at ≡ n → Accepted (count + 1) ≡ answerOf (read paper bs)
+      unfolding read
+      ends-well b z =
+          let whole : length bs ≤ st .at + w = rw (length-telegram s n (i .wide)) (omega (arith, is-field .past, i .here)) in
+          let all-read : drop (st .at + w) bs ≡ [] = drop-of-length-le bs whole in
+          rw (accepted-mark fromBits bitsIn Sent from-bits bs (i .drives) has-field o b all-read, mark-counted fromBits bitsIn Sent from-bits bs (i .drives) has-field o)
 
-        -- the value of a packet's Q_DIR
-        pub dir-small : (directs : Bool) → Directing st directs → directs ≡ true → v < 4
-        dir-small directs d b = subst (λ (x : ℕ). v < 2 ^ x) (d .yes b .2) (is-field .small)
+      pub ends-trailing : out ≡ Over → (next .at ≡ n → ⊥) → {place : ℕ} → ((l : List Earlier) → place ≡ packetPlace Trailing (view l st) v)
+          → read paper bs ≡ refused (record { kind = Trailing; place = place })
+      unfolding read
+      ends-trailing b z pl =
+          let rest : 0 < length (drop (st .at + w) bs) =
+            rw (length-drop, length-telegram s n (i .wide)) (omega (arith, is-field .past, is-field .within, i .here)) in
+          refused-trailing fromBits bitsIn Sent from-bits bs (i .drives) has-field o b rest pl
 
-  -- ---- where it ends
+      module _ {after : State} (g : out ≡ Go after) where
+        at-is : after .at ≡ st .at + w
+        at-is = rw ew (moves fromBits bitsIn Sent from-bits bs (i .drives) has-field o g)
 
-  module _ (rows seen : List ℕ) (met : ℕ) (st : State) (c : Cursor) (count : ℕ) (i : Scans rows seen met st c count) where
-    abbrev q : rules.State
-    q = view (i .earlier) st
+        pub less : n - after .at < n - st .at
+        less = omega (arith, at-is, is-field .within, i .here, width-positive (fieldAt (st .todo .node)))
 
-    read-is : (d : Driven) → drive paper fromBits (length (drop (st .at) bs)) q (drop (st .at) bs) ≡ d
-        → read paper bs ≡ whole paper (pushes (i .entries) d)
-    unfolding read
-    read-is d e = rw (i .goes, e)
-
-    refuses : (k : Kind) (v place : ℕ) → ((l : List Earlier) → place ≡ packetPlace k (view l st) v)
-        → drive paper fromBits (length (drop (st .at) bs)) q (drop (st .at) bs) ≡ stopped (refusal paper k q v)
-        → Refused (record { kind = k; place = place }) ≡ answerOf (read paper bs)
-    refuses k v place pl e =
-        rw (read-is (stopped (refusal paper k q v)) e, pushes-stopped (i .entries) (refusal paper k q v), pl (i .earlier))
-
-    module _ (t : Taken) (e : t ≡ takeAt s n (fieldAt (st .todo .node) .width) (c .at)) where
-      pub ends-short : t ≡ Short → (place : ℕ) → ((l : List Earlier) → place ≡ packetPlace Ended (view l st) 0)
-          → Refused (record { kind = Ended; place = place }) ≡ answerOf (read paper bs)
-      ends-short h place pl =
-          refuses Ended 0 place pl (drive-lacking _ q (drop (st .at) bs) (lacks-field rows seen met st c count i t e h))
-
-      module _ (v : ℕ) (next : Cursor) (h : t ≡ Field v next) (directs twice : Bool) (out : Outcome) (d : Directing st directs)
-          (rep : Repeated seen met directs st v twice) (o : Stepped st v twice out) where
-        told : (b : Bool) → directs ≡ b → ruleAt (st .todo .node) ≡ direction → st .level ≡ Packet
-            → sameAsEarlier (contextOf (i .earlier) st) v ≡ twice
-        told true b r l = rep b (i .earlier) (i .same)
-        told false b r l = absurd (d .no b r l)
-
-        step-is : step paper q v ≡ nextOf (earlierAfter (i .earlier) st v) out
-        step-is = o .right paper (i .earlier) (told directs refl)
-
-        some-left : 0 < length (drop (st .at) bs)
-        some-left =
-            let g = is-field rows seen met st c count i t e v next h in
-            rw (length-rest rows seen met st c count i) (omega (arith, g .within, i .here, width-positive (fieldAt (st .todo .node))))
-
-        has : fromBits q (drop (st .at) bs) ≡ got v (drop (st .at + fieldAt (st .todo .node) .width) bs)
-        has = has-field rows seen met st c count i t e v next h
-
-        pub ends-broken : (k : Kind) → out ≡ Breaks k → (place : ℕ) → ((l : List Earlier) → place ≡ packetPlace k (view l st) v)
-            → Refused (record { kind = k; place = place }) ≡ answerOf (read paper bs)
-        ends-broken k b place pl =
-            refuses k v place pl (drive-broken _ q _ _ v k some-left has (step-is ∙ ap (nextOf (earlierAfter (i .earlier) st v)) b))
-
-        marked : out ≡ Over → drive paper fromBits (length (drop (st .at) bs)) q (drop (st .at) bs)
-            ≡ ended (entry q v ∷ []) q (drop (st .at + fieldAt (st .todo .node) .width) bs)
-        marked b = drive-mark _ q _ _ v some-left has (step-is ∙ ap (nextOf (earlierAfter (i .earlier) st v)) b)
-
-        read-marked : out ≡ Over
-            → read paper bs ≡ whole paper (ended (i .entries ++ (entry q v ∷ [])) q (drop (st .at + fieldAt (st .todo .node) .width) bs))
-        read-marked b =
-            read-is _ (marked b) ∙ ap (whole paper) (pushes-ended (i .entries) (entry q v ∷ []) q (drop (st .at + fieldAt (st .todo .node) .width) bs))
-
-        pub ends-well : out ≡ Over → next .at ≡ n → Accepted (count + 1) ≡ answerOf (read paper bs)
-        ends-well b z =
-            let g = is-field rows seen met st c count i t e v next h in
-            let whole : length bs ≤ st .at + fieldAt (st .todo .node) .width = rw length-bs (omega (arith, g .past, i .here)) in
-            let all-read : drop (st .at + fieldAt (st .todo .node) .width) bs ≡ [] = drop-of-length-le bs whole in
-            rw (read-marked b, all-read, one-more (i .entries) (entry q v), i .counts)
-
-        more-left : (xs : List ℕ) → 0 < length xs → whole paper (ended (i .entries ++ (entry q v ∷ [])) q xs) ≡ refused (refusal paper Trailing q 255)
-        more-left [] k = absurd (omega arith)
-        more-left (x ∷ xs) k = refl
-
-        pub ends-trailing : out ≡ Over → (next .at ≡ n → ⊥) → (place : ℕ) → ((l : List Earlier) → place ≡ packetPlace Trailing (view l st) v)
-            → Refused (record { kind = Trailing; place = place }) ≡ answerOf (read paper bs)
-        ends-trailing b z place pl =
-            let g = is-field rows seen met st c count i t e v next h in
-            let rest : 0 < length (drop (st .at + fieldAt (st .todo .node) .width) bs) =
-            rw (length-drop, length-bs) (omega (arith, g .past, g .within, i .here)) in
-            let mark : v ≡ 255 = over-mark paper q v (step-is ∙ ap (nextOf (earlierAfter (i .earlier) st v)) b) .1 in
-            rw (read-marked b, more-left _ rest, pl (i .earlier), mark)
-
-        -- ---- where it goes on
-
-        sent : Sent q (drop (st .at) bs)
-        sent = record {
-          bits = below-drop 2 (st .at) bs (below-take 2 n (bitsOf s) (below-bitsOf s));
-          room = rw (length-rest rows seen met st c count i) (omega (arith, i .within));
+        pub scans-on : {met2 : ℕ} {seen2 : List ℕ} → Noticed seen met st v met2 seen2 → Scans s n rows seen2 met2 after next (count + 1)
+        scans-on {met2} {seen2} k = record {
+          low = i .low;
+          wide = i .wide;
+          drives = subst (λ (x : ℕ). Drives fromBits bitsIn Sent from-bits bs rows seen2 met2 after (count + 1) (drop x bs)) (sym at-is)
+              (drives-on fromBits bitsIn Sent from-bits bs (i .drives) has-field o g k);
+          here = omega (arith, is-field .past, i .here, at-is);
+          within = omega (arith, is-field .within, i .here, at-is);
+          few = omega (arith, i .few, at-is, width-positive (fieldAt (st .todo .node)));
         }
-
-        module _ (after : State) (g : out ≡ Go after) (met2 : ℕ) (seen2 : List ℕ) (k : Held seen met directs st v met2 seen2)
-            (long2 : length seen2 ≡ length seen) where
-          kept : Sound after × (after .at ≡ st .at + fieldAt (st .todo .node) .width)
-          kept = rw g at (o .kept)
-
-          past-is : past q ≡ after .at
-          past-is = rw (due-is rows seen met st c count i) (sym (kept .1))
-
-          goes-on : drive paper fromBits (length (drop (st .at) bs)) q (drop (st .at) bs)
-              ≡ push (entry q v) (drive paper fromBits (length (drop (after .at) bs)) (view (earlierAfter (i .earlier) st v) after) (drop (after .at) bs))
-          goes-on =
-              one-field-bounds paper fromBits bitsIn Sent from-bits (length (drop (st .at) bs)) (length (drop (after .at) bs)) q v
-              (drop (st .at) bs) (drop (after .at) bs) (todoOf (after .todo)) (contextOf (earlierAfter (i .earlier) st v) after) sent
-              (rw (kept .1) has) (step-is ∙ ap (nextOf (earlierAfter (i .earlier) st v)) g) (omega arith) (omega arith)
-              ∙ rw past-is
-
-          few-noted : (b : Bool) → directs ≡ b → met2 ≡ cond b (met + 1) met → 2 * met2 ≤ after .at
-          few-noted true b m = let y = d .yes b .2 in omega (arith, i .noted, kept .1)
-          few-noted false b m = omega (arith, i .noted, kept .1)
-
-          pub scans-on : Scans rows seen2 met2 after next (count + 1)
-          scans-on =
-              let f = is-field rows seen met st c count i t e v next h in
-              record {
-                table = i .table;
-                entries = i .entries ++ (entry q v ∷ []);
-                earlier = earlierAfter (i .earlier) st v;
-                goes = i .goes ∙ ap (pushes (i .entries)) goes-on ∙ sym (pushes-one (i .entries) (entry q v) _);
-                sound = kept .0;
-                here = omega (arith, f .past, i .here, kept .1);
-                within = omega (arith, f .within, i .here, kept .1);
-                counts = rw (one-more (i .entries) (entry q v), i .counts);
-                few = omega (arith, i .few, kept .1, width-positive (fieldAt (st .todo .node)));
-                noted = few-noted directs refl (k .count);
-                long = long2 ∙ i .long;
-                same = same-after seen met directs st v met2 seen2 (i .earlier) d (omega (arith, i .noted, i .within, i .long))
-                    (dir-small rows seen met st c count i t e v next h directs d) (i .same) k;
-              }

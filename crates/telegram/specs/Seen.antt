@@ -4,9 +4,12 @@ use mathlib.Core.Bool.{Bool, true, cond}
 use mathlib.Core.List.{List, [], _∷_}
 use Prim.Native.Nat.{ℕ, _+_, _*_, _/_, _%_, _<_, _≤_}
 use lib.ListN.{length, take, set}
-use Rattle.format.specs.Rules.{Earlier, among, sameAsEarlier}
-use Rattle.telegram.specs.Machine.{contextOf}
+use Rattle.format.specs.Rules.{Earlier, among, sameAsEarlier, step, paper}
+use Rattle.format.specs.Table.{fieldAt}
+use Rattle.telegram.specs.Machine.{contextOf, view, nextOf, earlierAfter, Stepping}
+use Rattle.telegram.specs.declared.machine.Outcome.{Outcome}
 use Rattle.telegram.specs.declared.state.State.{State}
+use Rattle.telegram.specs.Machine as machine
 
 abbrev pub packetIn : ℕ → Earlier
 packetIn x = record { id = x / 4; dir = x % 4 }
@@ -37,3 +40,20 @@ pub record Keeping (seen : List ℕ) (n : ℕ) (directs : Bool) (s : State) (v :
 pub record Held (before : List ℕ) (n : ℕ) (directs : Bool) (s : State) (v : ℕ) (r : ℕ) (after : List ℕ) : Type 0 where
   pub count : r ≡ cond directs (n + 1) n
   pub contents : after ≡ cond directs (set before n (4 * s .id + v)) before
+
+-- ---- a driver's turn
+
+pub record Turning (rows seen : List ℕ) (n : ℕ) (s : State) (v : ℕ) : Type 0 where
+  pub stepping : Stepping rows s v
+  pub inside : n < length seen
+
+-- one step of document 01's rules, whatever list the array stands for
+pub record Passed (seen : List ℕ) (n : ℕ) (s : State) (v : ℕ) (r : Outcome) : Type 0 where
+  pub right : (l : List Earlier) → Same seen n l → step paper (view l s) v ≡ nextOf (earlierAfter l s v) r
+  pub goes : machine.Kept (s .at + fieldAt (s .todo .node) .width) r
+
+-- the array then stands for the packets before the next field; each one kept took two bits
+pub record Noticed (before : List ℕ) (n : ℕ) (s : State) (v r : ℕ) (after : List ℕ) : Type 0 where
+  pub same : (l : List Earlier) → Same before n l → Same after r (earlierAfter l s v)
+  pub few : 2 * r ≤ 2 * n + fieldAt (s .todo .node) .width
+  pub long : length after ≡ length before

@@ -1,4 +1,5 @@
 // Checking and reading telegrams, by the machine that writing and normalising will drive too.
+mod driver;
 mod earlier;
 mod machine;
 mod reader;

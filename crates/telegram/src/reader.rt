@@ -9,17 +9,11 @@ ghost use Rattle.format.specs.Rules.{paper};
 ghost use Rattle.format.specs.Telegrams as telegrams;
 ghost use Rattle.telegram.specs.Reader.{sized, clear, checked, answerOf, Read};
 ghost use Rattle.format.specs.declared.Answer.the-variants.{Refused};
-ghost use Rattle.telegram.specs.Machine.{InTable, Directing};
 ghost use Rattle.telegram.specs.Filling.{Filling, Filled};
-use crate::earlier::note;
-use crate::earlier::repeated;
+use crate::driver::keep;
+use crate::driver::turn;
 use crate::machine::Outcome;
-use crate::machine::step;
-use crate::rows::DIRECTION;
-use crate::rows::code;
 use crate::rows::width;
-use crate::state::Level;
-use crate::state::State;
 use crate::state::begin;
 use crate::state::place;
 use crate::todo::Ahead;
@@ -92,24 +86,6 @@ fn clear(s: &[u8], n: usize) -> bool
     }
 }
 
-// Whether the field that is due is the Q_DIR of a packet, by which packets collide.
-fn directing(rows: &[u32; 213], s: State) -> bool
-    requires { ⌜ InTable (now rows) (s .todo .node) ⌝ }
-    ensures { λ r. ⌜ Directing s r ⌝ }
-{
-    let t = s.todo;
-    let k = t.node;
-    if code(rows, k) != DIRECTION {
-        return false;
-    }
-    let l = s.level;
-    match l {
-        Level::Header => false,
-        Level::Packet => true,
-        Level::User => false,
-    }
-}
-
 // Goes over the fields of the first n bits of s, each taken through the cursor, up to the first broken rule or the end mark. Every
 // packet whose Q_DIR was taken is in seen: its Q_DIR has two bits of the 830, so that there are not more than 415.
 fn scan(s: &[u8], n: usize) -> Answer
@@ -128,9 +104,7 @@ fn scan(s: &[u8], n: usize) -> Answer
         let Taken::Field(v, next) = c.take(s, n, width(&rows, k)) else {
             return refuse(Kind::Ended, place(Kind::Ended, st, 0));
         };
-        let directs = directing(&rows, st);
-        let twice = repeated(&seen, met, directs, st, v);
-        match step(&rows, st, v, twice) {
+        match turn(&rows, &seen, met, st, v) {
             Outcome::Breaks(kind) => {
                 return refuse(kind, place(kind, st, v));
             }
@@ -141,7 +115,7 @@ fn scan(s: &[u8], n: usize) -> Answer
                 return refuse(Kind::Trailing, place(Kind::Trailing, st, v));
             }
             Outcome::Go(after) => {
-                met = note(&mut seen, met, directs, st, v);
+                met = keep(&rows, &mut seen, met, st, v);
                 st = after;
                 c = next;
                 count += 1;

@@ -1,9 +1,9 @@
--- `telegram::reader::directing` meets its contract: the code of Q_DIR, in a packet and not in the CTCS packet inside one. Assumes nothing.
+-- `telegram::driver::directing` meets its contract: the code of Q_DIR, in a packet and not in the CTCS packet inside one. Assumes nothing.
 use mathlib.Core.Path.{_∙_}
 use borrow.Author.Needs.{needs}
 use Rattle.telegram.proofs.Directions.{directs-not, directs-elsewhere, directs-here, not-header, not-user}
-use Rattle.telegram.proofs.reader.directing.Statement.{statement}
-use Rattle.telegram.proofs.reader.directing.Tie as tie
+use Rattle.telegram.proofs.driver.directing.Statement.{statement}
+use Rattle.telegram.proofs.driver.directing.Tie as tie
 
 code-requires : tie.Need-code-requires
 code-requires c κs = search needs
