@@ -1,27 +1,64 @@
 -- Document 01, "Worked telegrams", the proved group: one table of claims about the definitions. Definitions alone.
-use mathlib.Core.Bool.{Bool, true, _&&_}
+use mathlib.Core.Bool.{Bool, true, false, not, _&&_}
 use mathlib.Core.List.{List, [], _∷_, _++_}
 use Prim.Native.Nat.{ℕ, zero, suc, _+_}
 use lib.Dec.{eqb}
+use lib.ListN.{length}
+use Rattle.format.specs.Refusals.{numberOf}
 use Rattle.format.specs.Rules.{paper}
-use Rattle.format.specs.Telegrams.{Result, bitCount, write}
+use Rattle.format.specs.Telegrams.{Result, bits, values, bitCount, write}
 use Rattle.format.specs.Telegrams.Result.{accepted, refused}
+use Rattle.telegram.specs.Reader.{checked}
 
--- What a case claims of values that follow the header of case 1.
+-- What a case claims: of bytes and n, or of values that follow the header of case 1 and are followed by the end mark.
 pub data Claim : Type 0 where
-  -- they are one packet, of so many bits; with the header and the end mark it is accepted
+  -- the bytes and n are read: these values, and their count
+  reads : List ℕ → ℕ → List ℕ → ℕ → Claim
+  -- they are refused, with this number and place
+  refuses : List ℕ → ℕ → ℕ → ℕ → Claim
+  -- the values are one packet, of so many bits; with the header and the end mark it is accepted
   takes : List ℕ → ℕ → Claim
+  -- they are packets; with the header and the end mark they are accepted, of so many bits
+  fills : List ℕ → ℕ → Claim
+  -- two lists of values are both accepted, and are different bits
+  differ : List ℕ → List ℕ → Claim
+  -- the values are refused, with this number and place
+  breaks : List ℕ → ℕ → ℕ → Claim
 
 -- "Header 1,16,0,0,1,0,255,9,3007,1"
 abbrev pub head : List ℕ
 head = 1 ∷ 16 ∷ 0 ∷ 0 ∷ 1 ∷ 0 ∷ 255 ∷ 9 ∷ 3007 ∷ 1 ∷ []
 
+abbrev pub written : List ℕ → Result
+written vs = write paper (head ++ (vs ++ (255 ∷ [])))
+
 abbrev pub bitsOr0 : Result → ℕ
 bitsOr0 (accepted es) = bitCount es
 bitsOr0 (refused r) = 0
 
+abbrev pub same : List ℕ → List ℕ → Bool
+same [] [] = true
+same [] (y ∷ ys) = false
+same (x ∷ xs) [] = false
+same (x ∷ xs) (y ∷ ys) = eqb x y && same xs ys
+
+abbrev pub bothDiffer : Result → Result → Bool
+bothDiffer (accepted es) (accepted fs) = not (same (bits es) (bits fs))
+bothDiffer (accepted es) (refused r) = false
+bothDiffer (refused r) b = false
+
+-- an answer in numbers: 0, the count and the values; or the number and the place
+abbrev pub told : Result → List ℕ
+told (accepted es) = 0 ∷ length (values es) ∷ values es
+told (refused r) = numberOf (r .kind) ∷ r .place ∷ []
+
 unfoldable pub holds : Claim → Bool
-holds (takes vs n) = eqb (bitsOr0 (write paper (head ++ (vs ++ (255 ∷ []))))) (50 + n + 8)
+holds (reads s n vs k) = same (told (checked paper s n)) (0 ∷ k ∷ vs)
+holds (refuses s n number place) = same (told (checked paper s n)) (number ∷ place ∷ [])
+holds (takes vs n) = eqb (bitsOr0 (written vs)) (50 + n + 8)
+holds (fills vs n) = eqb (bitsOr0 (written vs)) n
+holds (differ us vs) = bothDiffer (written us) (written vs)
+holds (breaks vs number place) = same (told (written vs)) (number ∷ place ∷ [])
 
 abbrev pub hold : List Claim → Bool
 hold [] = true
@@ -39,10 +76,34 @@ linked = 120 ∷ 0 ∷ 3008 ∷ 1 ∷ 2 ∷ 12 ∷ []
 abbrev abroad : List ℕ
 abroad = 120 ∷ 1 ∷ 10 ∷ 3008 ∷ 1 ∷ 2 ∷ 12 ∷ []
 
+-- case 1's bytes, with any last one
+abbrev eight : ℕ → List ℕ
+eight x = 0x90 ∷ 0x02 ∷ 0x7F ∷ 0x81 ∷ 0x25 ∷ 0xDF ∷ 0xFF ∷ x ∷ []
+
+-- ETCS-42 with any NID_RADIO
+abbrev call : ℕ → List ℕ
+call radio = 42 ∷ 1 ∷ 113 ∷ 0 ∷ 0 ∷ 0 ∷ radio ∷ 0 ∷ []
+
+-- of the stop telegram
+abbrev stop44 : List ℕ
+stop44 = 44 ∷ 1 ∷ 48 ∷ 5 ∷ 1 ∷ 25 ∷ 0 ∷ []
+
+abbrev stop132 : List ℕ
+stop132 = 132 ∷ 1 ∷ 24 ∷ 0 ∷ []
+
+abbrev stop137 : List ℕ
+stop137 = 137 ∷ 1 ∷ 24 ∷ 0 ∷ []
+
 unfoldable pub cases : List Claim
 cases =
+    -- 1. The header and the end mark: 58 bits, 11 values
+    reads (eight 0xC0) 58 (head ++ (255 ∷ [])) 11
+    -- 2. The same with C1 last; the same eight bytes with n = 59; n = 57
+    ∷ refuses (eight 0xC1) 58 3 0
+    ∷ refuses (eight 0xC0) 59 11 50
+    ∷ refuses (eight 0xC0) 57 2 0
     -- 3. ETCS-5 with N_ITER 1, no new country 108, one new country 118
-    takes (5 ∷ 1 ∷ 108 ∷ 1 ∷ (linked ++ (1 ∷ linked))) 108
+    ∷ takes (5 ∷ 1 ∷ 108 ∷ 1 ∷ (linked ++ (1 ∷ linked))) 108
     ∷ takes (5 ∷ 1 ∷ 118 ∷ 1 ∷ (linked ++ (1 ∷ abroad))) 118
     ∷ takes (5 ∷ 1 ∷ 118 ∷ 1 ∷ (abroad ++ (1 ∷ linked))) 118
     -- ETCS-27 with N_ITER 4, no train types 170
@@ -54,4 +115,14 @@ cases =
     ∷ takes (44 ∷ 1 ∷ 221 ∷ 2 ∷ 1 ∷ 198 ∷ 1 ∷ 9000 ∷ 0 ∷ 1000 ∷ 1 ∷ 9 ∷ 3 ∷ repeated 3 (1000 ∷ 500 ∷ 1 ∷ 9 ∷ [])) 221
     -- 5. ETCS-72, both levels 5, 9 text bytes: 164
     ∷ takes (72 ∷ 1 ∷ 164 ∷ 1 ∷ 0 ∷ 0 ∷ 0 ∷ 15 ∷ 5 ∷ 32767 ∷ 1023 ∷ 15 ∷ 5 ∷ 2 ∷ 9 ∷ repeated 9 (65 ∷ [])) 164
+    -- 6. Stop telegram (44 with CTCS-5 48, 132 24, 137 24): n = 154
+    ∷ takes stop44 48
+    ∷ takes stop132 24
+    ∷ takes stop137 24
+    ∷ fills (stop44 ++ (stop132 ++ stop137)) 154
+    -- 7. NID_RADIO 08614970020002FF and 8614970020002FFF are both allowed and differ; 0861497002000FF2 is refused by 7
+    ∷ takes (call 0x08614970020002FF) 113
+    ∷ takes (call 0x8614970020002FFF) 113
+    ∷ differ (call 0x08614970020002FF) (call 0x8614970020002FFF)
+    ∷ breaks (call 0x0861497002000FF2) 7 50
     ∷ []

@@ -8,3 +8,4 @@ pub mod Refused
 pub mod Steps
 pub mod Tile
 pub mod Prefix
+pub mod Order

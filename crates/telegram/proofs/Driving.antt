@@ -129,6 +129,9 @@ module _ (source : rules.State → List ℕ → Taken) (part : Entry → List �
       refused-lacking {k} e {place} pl = stops k 0 place pl (drive-lacking here xs k e)
 
       module _ {v : ℕ} {ys : List ℕ} (e : source here xs ≡ got v ys) {out : Outcome} (o : Passed seen met st v out) where
+        entry-width : entry here v .field .width ≡ fieldAt (st .todo .node) .width
+        entry-width = width-named (todoOf (st .todo)) v ∙ rw due-is
+
         step-is : step paper here v ≡ nextOf (earlierAfter (i .earlier) st v) out
         step-is = o .right (i .earlier) (i .same)
 
@@ -151,6 +154,9 @@ module _ (source : rules.State → List ℕ → Taken) (part : Entry → List �
         pub mark-counted : count + 1 ≡ length (values (i .entries ++ (entry here v ∷ [])))
         mark-counted = rw (values-more (i .entries) (entry here v), i .counts)
 
+        pub mark-sized : bitCount (i .entries ++ (entry here v ∷ [])) ≡ st .at + fieldAt (st .todo .node) .width
+        mark-sized = bits-more (i .entries) (entry here v) ∙ rw (i .sent, entry-width)
+
         trailing : (zs : List ℕ) → 0 < length zs
             → whole paper (ended (i .entries ++ (entry here v ∷ [])) here zs) ≡ refused (refusal paper Trailing here 255)
         trailing [] h = absurd (omega arith)
@@ -163,9 +169,6 @@ module _ (source : rules.State → List ℕ → Taken) (part : Entry → List �
             marked b ∙ trailing ys h ∙ rw (pl (i .earlier), mark)
 
         -- ---- where it goes on
-
-        entry-width : entry here v .field .width ≡ fieldAt (st .todo .node) .width
-        entry-width = width-named (todoOf (st .todo)) v ∙ rw due-is
 
         module _ {after : State} (g : out ≡ Go after) where
           kept : Sound after × (after .at ≡ st .at + fieldAt (st .todo .node) .width)
@@ -198,7 +201,7 @@ module _ (source : rules.State → List ℕ → Taken) (part : Entry → List �
             goes = i .goes ∙ ap (pushes (i .entries)) goes-on ∙ sym (pushes-one (i .entries) (entry here v) _);
             good = subst (λ (q : rules.State). Good q ys) arrives (law .taken here v xs ys (i .good) e .good (todoOf (after .todo)) _);
             sound = kept .0;
-            sent = bits-more (i .entries) (entry here v) ∙ rw (i .sent, entry-width) (sym (kept .1));
+            sent = mark-sized ∙ sym (kept .1);
             counts = rw (values-more (i .entries) (entry here v), i .counts);
             noted = omega (arith, i .noted, n .few, kept .1);
             long = n .long ∙ i .long;

@@ -8,5 +8,9 @@ pub mod Stepping
 pub mod Directions
 pub mod Driving
 pub mod Scanning
+pub mod Measuring
 pub mod Filling
 pub mod Checking
+pub mod Answers
+pub mod Once
+pub mod Cheats

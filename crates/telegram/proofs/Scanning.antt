@@ -179,7 +179,7 @@ module _ {s : List ℕ} {n : ℕ} {rows seen : List ℕ} {met : ℕ} {st : State
       unfolding read
       ends-trailing b z pl =
           let rest : 0 < length (drop (st .at + w) bs) =
-            rw (length-drop, length-telegram s n (i .wide)) (omega (arith, is-field .past, is-field .within, i .here)) in
+          rw (length-drop, length-telegram s n (i .wide)) (omega (arith, is-field .past, is-field .within, i .here)) in
           refused-trailing fromBits bitsIn Sent from-bits bs (i .drives) has-field o b rest pl
 
       module _ {after : State} (g : out ≡ Go after) where

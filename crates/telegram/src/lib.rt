@@ -1,4 +1,5 @@
-// Checking and reading telegrams, by the machine that writing and normalising will drive too.
+// Checking, reading and writing telegrams, by one machine that normalising will drive too.
+mod answer;
 mod driver;
 mod earlier;
 mod machine;
@@ -11,3 +12,4 @@ mod writer;
 
 pub use reader::check;
 pub use reader::read;
+pub use writer::write;

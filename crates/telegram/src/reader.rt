@@ -8,8 +8,8 @@ ghost use Rattle.bits.specs.Bits.{bitsOf, bytesFor};
 ghost use Rattle.format.specs.Rules.{paper};
 ghost use Rattle.format.specs.Telegrams as telegrams;
 ghost use Rattle.telegram.specs.Reader.{sized, clear, checked, answerOf, Read};
-ghost use Rattle.format.specs.declared.Answer.the-variants.{Refused};
 ghost use Rattle.telegram.specs.Filling.{Filling, Filled};
+use crate::answer::refuse;
 use crate::driver::keep;
 use crate::driver::turn;
 use crate::machine::Outcome;
@@ -23,7 +23,6 @@ use bits::Cursor;
 use bits::Taken;
 use format::Answer;
 use format::Kind;
-use format::Refusal;
 use format::table;
 
 // Whether the bytes and n are a telegram: Accepted with the count of its values, or its refusal.
@@ -52,12 +51,6 @@ pub fn read(s: &[u8], n: usize, out: &mut [u64]) -> Answer
     };
     fill(s, n, out);
     a
-}
-
-fn refuse(kind: Kind, place: usize) -> Answer
-    ensures { λ r. ⌜ r ≡ Refused (record { kind = kind; place = place }) ⌝ }
-{
-    Answer::Refused(Refusal { kind, place })
 }
 
 // Whether n is the length of a telegram, and s has the bytes for it and no more.

@@ -2,12 +2,80 @@
 //
 // A refusal changes no output, so writing measures first, and stores in a second run, which follows the rows alone.
 ghost use mathlib.Core.Path.{_≡_};
-ghost use Rattle.telegram.specs.Writer.{Storing, Stored};
+ghost use Rattle.format.specs.Rules.{paper};
+ghost use Rattle.format.specs.Telegrams as telegrams;
+ghost use Rattle.telegram.specs.Writer.{sizeOf, Write, Storing, Stored};
+use crate::answer::refuse;
+use crate::driver::keep;
+use crate::driver::turn;
+use crate::machine::Outcome;
 use crate::rows::width;
+use crate::state::begin;
+use crate::state::place;
 use crate::todo::Ahead;
 use crate::todo::Todo;
 use crate::todo::advance;
+use format::Answer;
+use format::Kind;
 use format::table;
+
+// Writes the telegram with these values into out, and answers its n. A refusal leaves out as it was.
+pub fn write(values: &[u64], out: &mut [u8]) -> Answer
+    ensures { λ r. ⌜ Write paper (now (values .entry)) (now (out .entry)) r (now (out .exit)) ⌝ }
+{
+    if out.len() < 104 {
+        return refuse(Kind::Room, 0);
+    }
+    let a = measure(values);
+    let Answer::Accepted(n) = a else {
+        return a;
+    };
+    store(values, n, out);
+    a
+}
+
+// Goes over the values, each for the field that is due, up to the first broken rule or the end mark. Every packet whose Q_DIR was sent
+// is in seen, as in the check.
+fn measure(values: &[u64]) -> Answer
+    ensures { λ r. ⌜ r ≡ sizeOf (telegrams.write paper (now (values .entry))) ⌝ }
+{
+    let rows = table::rows();
+    let mut seen = [0u16; 416];
+    let mut met: usize = 0;
+    let mut st = begin();
+    let mut i: usize = 0;
+    loop {
+        let t = st.todo;
+        let k = t.node;
+        let w = width(&rows, k);
+        if values.len() <= i {
+            return refuse(Kind::Ended, place(Kind::Ended, st, 0));
+        }
+        let v = values[i];
+        if !bits::fits(v, w) {
+            return refuse(Kind::Wide, place(Kind::Wide, st, 0));
+        }
+        if 830 < st.at + w {
+            return refuse(Kind::Full, place(Kind::Full, st, 0));
+        }
+        match turn(&rows, &seen, met, st, v) {
+            Outcome::Breaks(kind) => {
+                return refuse(kind, place(kind, st, v));
+            }
+            Outcome::Over => {
+                if i + 1 == values.len() {
+                    return Answer::Accepted(st.at + w);
+                }
+                return refuse(Kind::Trailing, place(Kind::Trailing, st, v));
+            }
+            Outcome::Go(after) => {
+                met = keep(&rows, &mut seen, met, st, v);
+                st = after;
+                i += 1;
+            }
+        }
+    }
+}
 
 // Stores the n bits of a telegram with these values. The last byte is cleared first, so that its unused low bits are 0.
 fn store(values: &[u64], n: usize, out: &mut [u8])

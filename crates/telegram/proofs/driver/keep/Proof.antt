@@ -3,18 +3,12 @@ use Rattle.telegram.proofs.Directions.{dir-small, notices}
 use borrow.Author.Needs.{needs}
 use Rattle.telegram.proofs.driver.keep.Statement.{statement}
 use Rattle.telegram.proofs.driver.keep.Tie as tie
-use Rattle.telegram.proofs.driver.keep.Reads as reads
-use Rattle.telegram.proofs.driver.keep.Lts as lts
-use Rattle.telegram.proofs.driver.directing.Reads as directing-reads
-use Rattle.telegram.proofs.earlier.note.Reads as note-reads
 
--- src/driver.rt:27:19
 directing-requires : tie.Need-directing-requires
 directing-requires c κs = search needs
 
--- src/driver.rt:27:5
 note-requires : tie.Need-note-requires
-note-requires c κs = 
+note-requires c κs =
     let a = c .before .before .before in
     record {
       inside = a .pre .inside;
@@ -22,13 +16,11 @@ note-requires c κs =
       fits = dir-small (a .args .s) (a .args .v) _ (c .directing .ensures) (a .pre .stepping .fits);
     }
 
--- src/driver.rt:23:1
 same-length : tie.Need-same-length
 same-length c = search needs
 
--- src/driver.rt:23:1
 returns : tie.Need-returns
-returns c = 
+returns c =
     let a = c .before .before .before .before .before .before in
     notices _ _ _ _ _ _ _ (c .before .before .before .directing .ensures) (a .pre .inside) (a .pre .stepping .fits) (c .before .before .note .ensures)
 

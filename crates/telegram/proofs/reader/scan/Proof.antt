@@ -8,16 +8,6 @@ use Rattle.telegram.specs.Reader.{answerOf}
 use Rattle.telegram.proofs.Scanning.{Scans, scans-first, scans-on, fits, less, ends-short, ends-broken, ends-well, ends-trailing}
 use Rattle.telegram.proofs.reader.scan.Statement.{statement}
 use Rattle.telegram.proofs.reader.scan.Tie as tie
-use Rattle.telegram.proofs.reader.scan.Reads as reads
-use Rattle.telegram.proofs.reader.scan.Lts as lts
-use Rattle.bits.proofs.Cursor.take.Reads as take-reads
-use Rattle.format.proofs.table.rows.Reads as rows-reads
-use Rattle.telegram.proofs.driver.keep.Reads as keep-reads
-use Rattle.telegram.proofs.driver.turn.Reads as turn-reads
-use Rattle.telegram.proofs.reader.refuse.Reads as refuse-reads
-use Rattle.telegram.proofs.rows.width.Reads as width-reads
-use Rattle.telegram.proofs.state.begin.Reads as begin-reads
-use Rattle.telegram.proofs.state.place.Reads as place-reads
 
 abbrev Inv-loop : tie.InvT-loop
 Inv-loop s n rows seen₀ met₀ st₀ c₀ count₀ seen met st c count = Scans s n rows seen met st c count
@@ -25,131 +15,103 @@ Inv-loop s n rows seen₀ met₀ st₀ c₀ count₀ seen met st c count = Scans
 abbrev μ-loop : tie.MeasureT-loop
 μ-loop s n rows seen₀ met₀ st₀ c₀ count₀ seen met st c count = n - st .at
 
--- src/reader.rt:95:16
 rows-requires : tie.Need-rows-requires Inv-loop μ-loop
 rows-requires c κs = search needs
 
--- src/reader.rt:98:9
 begin-requires : tie.Need-begin-requires Inv-loop μ-loop
 begin-requires c κs = search needs
 
--- src/reader.rt:101:5
 loop-holds : tie.Need-loop-holds Inv-loop μ-loop
 loop-holds c = let a = c .before .before .before in scans-first (a .pre .0) (a .pre .1) (c .before .rows .ensures) refl (c .begin .ensures)
 
--- src/reader.rt:104:50
 width-requires : tie.Need-width-requires Inv-loop μ-loop
 width-requires c κs = record { table = c .before .before .loop .inv .drives .table; inside = c .before .before .loop .inv .drives .sound .tidy .inside }
 
--- src/reader.rt:104:37
 take-requires : tie.Need-take-requires Inv-loop μ-loop
 take-requires c κs = search needs
 
--- src/reader.rt:104:26
 enum-known-v : tie.Need-enum-known-v Inv-loop μ-loop
 enum-known-v c = search needs
 
--- src/reader.rt:105:27
 enum-told : tie.Need-enum-told Inv-loop μ-loop
 enum-told c = search needs
 
--- src/reader.rt:105:40
 place-requires : tie.Need-place-requires Inv-loop μ-loop
 place-requires c κs = search needs
 
--- src/reader.rt:105:13
 refuse-requires : tie.Need-refuse-requires Inv-loop μ-loop
 refuse-requires c κs = search needs
 
--- src/reader.rt:105:13
 returns : tie.Need-returns Inv-loop μ-loop
-returns c = 
+returns c =
     c .refuse .ensures
     ∙ sym (ap answerOf (ends-short (c .before .before .before .before .before .before .before .before .loop .inv) (c .before .before .before .before .before .width .ensures) (c .before .before .before .before .take .ensures) (c .before .before .enum-told .given .1) (c .before .place .ensures)))
 
--- src/reader.rt:107:27
 slice-aggregate-turn : tie.Need-slice-aggregate-turn Inv-loop μ-loop
 slice-aggregate-turn c = sym (c .before .before .before .before .before .before .before .before .before .loop .inv .drives .long)
 
--- src/reader.rt:107:15
 turn-requires : tie.Need-turn-requires Inv-loop μ-loop
-turn-requires c κs = 
+turn-requires c κs =
     let i = c .before .before .before .before .before .before .before .before .before .loop .inv in
     record {
       stepping = record { table = i .drives .table; sound = i .drives .sound; low = omega (arith, i .within, i .low); fits = fits (c .before .before .before .before .before .before .before .before .before .loop .inv) (c .before .before .before .before .before .before .width .ensures) (c .before .before .before .before .before .take .ensures) (c .before .before .before .v .given .1) };
       inside = omega (arith, i .drives .noted, i .within, i .low, i .drives .long);
     }
 
--- src/reader.rt:108:29
 enum-known-kind : tie.Need-enum-known-kind Inv-loop μ-loop
 enum-known-kind c = search needs
 
--- src/reader.rt:109:37
 place-requires-2 : tie.Need-place-requires-2 Inv-loop μ-loop
 place-requires-2 c κs = search needs
 
--- src/reader.rt:109:17
 refuse-requires-2 : tie.Need-refuse-requires-2 Inv-loop μ-loop
 refuse-requires-2 c κs = search needs
 
--- src/reader.rt:109:17
 returns-2 : tie.Need-returns-2 Inv-loop μ-loop
-returns-2 c = 
+returns-2 c =
     c .refuse2 .ensures
     ∙ sym (ap answerOf (ends-broken (c .before .before .before .before .before .before .before .before .before .before .before .before .before .before .before .loop .inv) (c .before .before .before .before .before .before .before .before .before .before .before .before .width .ensures) (c .before .before .before .before .before .before .before .before .before .before .before .take .ensures) (c .before .before .before .before .before .before .before .before .before .v .given .1) (c .before .before .before .before .before .turn .ensures) (c .before .before .before .kind .given .1) (c .before .place2 .ensures)))
 
--- src/reader.rt:112:20
 enum-told-2 : tie.Need-enum-told-2 Inv-loop μ-loop
 enum-told-2 c = search needs
 
--- src/reader.rt:113:45
 add-t28 : tie.Need-add-t28 Inv-loop μ-loop
 add-t28 c = let i = c .before .before .before .before .before .before .before .before .before .before .before .before .before .before .loop .inv in omega (arith, i .few, i .within, i .low)
 
--- src/reader.rt:113:21
 returns-3 : tie.Need-returns-3 Inv-loop μ-loop
 returns-3 c = ends-well (c .before .before .before .before .before .before .before .before .before .before .before .before .before .before .loop .inv) (c .before .before .before .before .before .before .before .before .before .before .before .width .ensures) (c .before .before .before .before .before .before .before .before .before .before .take .ensures) (c .before .before .before .before .before .before .before .before .v .given .1) (c .before .before .before .before .turn .ensures) (c .before .before .enum-told2 .given .1) (c .if1 .taken)
 
--- src/reader.rt:115:47
 place-requires-3 : tie.Need-place-requires-3 Inv-loop μ-loop
 place-requires-3 c κs = search needs
 
--- src/reader.rt:115:17
 refuse-requires-3 : tie.Need-refuse-requires-3 Inv-loop μ-loop
 refuse-requires-3 c κs = search needs
 
--- src/reader.rt:115:17
 returns-4 : tie.Need-returns-4 Inv-loop μ-loop
-returns-4 c = 
+returns-4 c =
     c .refuse3 .ensures
     ∙ sym (ap answerOf (ends-trailing (c .before .before .before .before .before .before .before .before .before .before .before .before .before .before .before .before .loop .inv) (c .before .before .before .before .before .before .before .before .before .before .before .before .before .width .ensures) (c .before .before .before .before .before .before .before .before .before .before .before .before .take .ensures) (c .before .before .before .before .before .before .before .before .before .before .v .given .1) (c .before .before .before .before .before .before .turn .ensures) (c .before .before .before .before .enum-told2 .given .1) (c .before .before .if1 .left) (c .before .place3 .ensures)))
 
--- src/reader.rt:117:25
 enum-known-after : tie.Need-enum-known-after Inv-loop μ-loop
 enum-known-after c = search needs
 
--- src/reader.rt:118:35
 slice-aggregate-keep : tie.Need-slice-aggregate-keep Inv-loop μ-loop
 slice-aggregate-keep c = sym (c .before .before .before .before .before .before .before .before .before .before .before .before .before .before .before .loop .inv .drives .long)
 
--- src/reader.rt:118:17
 keep-requires : tie.Need-keep-requires Inv-loop μ-loop
-keep-requires c κs = 
+keep-requires c κs =
     let i = c .before .before .before .before .before .before .before .before .before .before .before .before .before .before .before .loop .inv in
     record {
       stepping = record { table = i .drives .table; sound = i .drives .sound; low = omega (arith, i .within, i .low); fits = fits (c .before .before .before .before .before .before .before .before .before .before .before .before .before .before .before .loop .inv) (c .before .before .before .before .before .before .before .before .before .before .before .before .width .ensures) (c .before .before .before .before .before .before .before .before .before .before .before .take .ensures) (c .before .before .before .before .before .before .before .before .before .v .given .1) };
       inside = omega (arith, i .drives .noted, i .within, i .low, i .drives .long);
     }
 
--- src/reader.rt:121:17
 add-count : tie.Need-add-count Inv-loop μ-loop
 add-count c = let i = c .before .before .before .before .before .before .before .before .before .before .before .before .before .before .before .before .before .loop .inv in omega (arith, i .few, i .within, i .low)
 
--- src/reader.rt:101:5
 loop-less : tie.Need-loop-less Inv-loop μ-loop
 loop-less c = less (c .before .before .before .before .before .before .before .before .before .before .before .before .before .before .before .before .before .loop .inv) (c .before .before .before .before .before .before .before .before .before .before .before .before .before .before .width .ensures) (c .before .before .before .before .before .before .before .before .before .before .before .before .before .take .ensures) (c .before .before .before .before .before .before .before .before .before .before .before .v .given .1) (c .before .before .before .before .before .before .before .turn .ensures) (c .before .before .before .before .before .after .given .1)
 
--- src/reader.rt:101:5
 loop-again : tie.Need-loop-again Inv-loop μ-loop
 loop-again c = scans-on (c .before .before .before .before .before .before .before .before .before .before .before .before .before .before .before .before .before .loop .inv) (c .before .before .before .before .before .before .before .before .before .before .before .before .before .before .width .ensures) (c .before .before .before .before .before .before .before .before .before .before .before .before .before .take .ensures) (c .before .before .before .before .before .before .before .before .before .before .before .v .given .1) (c .before .before .before .before .before .before .before .turn .ensures) (c .before .before .before .before .before .after .given .1) (c .before .keep .ensures)
 
