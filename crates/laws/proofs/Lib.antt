@@ -9,3 +9,4 @@ pub mod Steps
 pub mod Tile
 pub mod Prefix
 pub mod Order
+pub mod Agree

@@ -11,14 +11,14 @@ use lib.Seq.{length-take-le}
 use Rattle.bits.specs.Bits.{bitsOf, bytesFor}
 use Rattle.bits.proofs.Bytes.{length-bitsOf, below-bitsOf, below-take}
 use Rattle.format.specs.Rules.{Terms, paper}
-use Rattle.format.specs.Telegrams.{Entry, Result, Telegram, bits, read}
+use Rattle.format.specs.Telegrams.{values, Entry, Result, Telegram, bits, read}
 use Rattle.format.specs.Telegrams.Result.{accepted, refused}
 use Rattle.format.specs.declared.Kind.the-variants.{Room, Size, Padding}
 use Rattle.format.specs.declared.Refusal.{Refusal}
 use Rattle.format.specs.declared.Answer.{Answer}
 use Rattle.format.specs.declared.Answer.the-variants.{Accepted, Refused}
 use Rattle.laws.proofs.Demand2.{read-is}
-use Rattle.telegram.specs.Reader.{sized, clear, atOnce, checked, readInto, answerOf, Read}
+use Rattle.telegram.specs.Reader.{answered, sized, clear, atOnce, checked, readInto, answerOf, Read}
 use Rattle.telegram.specs.Filling.{Filling, Filled}
 
 -- ---- 2 and 3
@@ -83,24 +83,28 @@ module _ (s : List ℕ) (n : ℕ) where
 
 -- ---- an answer, and what it answers for
 
-pub record AcceptedAs (r : Result) (k : ℕ) : Type 0 where
+pub record AcceptedAs (f : List Entry → ℕ) (r : Result) (k : ℕ) : Type 0 where
   pub entries : List Entry
   pub is : r ≡ accepted entries
+  pub counted : k ≡ f entries
 
-pub was-accepted : (r : Result) (a : Answer) (k : ℕ) → a ≡ answerOf r → a ≡ Accepted k → AcceptedAs r k
-was-accepted (accepted es) a k p q = record { entries = es; is = refl }
-was-accepted (refused r) a k p q = let z : _≡_ {A = ℕ} 0 1 = cc in absurd (omega arith)
+pub was-accepted : (f : List Entry → ℕ) (r : Result) (a : Answer) (k : ℕ) → a ≡ answered f r → a ≡ Accepted k → AcceptedAs f r k
+was-accepted f (accepted es) a k p q = let e : k ≡ f es = cc in record { entries = es; is = refl; counted = e }
+was-accepted f (refused r) a k p q = let z : _≡_ {A = ℕ} 0 1 = cc in absurd (omega arith)
+
+pub was-refused : (f : List Entry → ℕ) (r : Result) (a : Answer) (x : Refusal) → a ≡ answered f r → a ≡ Refused x → r ≡ refused x
+was-refused f (accepted es) a x p q = let z : _≡_ {A = ℕ} 0 1 = cc in absurd (omega arith)
+was-refused f (refused r) a x p q = let e : r ≡ x = cc in ap refused e
+
+abbrev counted : List Entry → ℕ
+counted es = length (values es)
 
 pub fillable : (s : List ℕ) (n : ℕ) (out : List ℕ) (a : Answer) (k : ℕ) → 830 ≤ length out → a ≡ answerOf (checked paper s n) → a ≡ Accepted k
     → Filling s n out
 fillable s n out a k room p q =
-    let w = was-accepted (checked paper s n) a k p q in
+    let w = was-accepted counted (checked paper s n) a k p q in
     let h = holds s n (w .entries) (w .is) in
     record { entries = w .entries; telegram = h .telegram; same = h .same; within = h .within; room = room }
-
-pub was-refused : (r : Result) (a : Answer) (x : Refusal) → a ≡ answerOf r → a ≡ Refused x → r ≡ refused x
-was-refused (accepted es) a x p q = let z : _≡_ {A = ℕ} 0 1 = cc in absurd (omega arith)
-was-refused (refused r) a x p q = let e : r ≡ x = cc in ap refused e
 
 module _ (s : List ℕ) (n : ℕ) (before : List ℕ) where
   pub reads-roomless : length before < 830 → Read paper s n before (Refused (record { kind = Room; place = 0 })) before
@@ -113,11 +117,11 @@ module _ (s : List ℕ) (n : ℕ) (before : List ℕ) where
     into = rw (le-leb 830 (length before) h)
 
     pub reads-refused : (a : Answer) (x : Refusal) → a ≡ answerOf (checked paper s n) → a ≡ Refused x → Read paper s n before a before
-    reads-refused a x p q = record { answers = rw into p; contents = rw (into, was-refused (checked paper s n) a x p q) }
+    reads-refused a x p q = record { answers = rw into p; contents = rw (into, was-refused counted (checked paper s n) a x p q) }
 
     pub reads-accepted : (a : Answer) (k : ℕ) (after : List ℕ) → a ≡ answerOf (checked paper s n) → a ≡ Accepted k
         → Filled s n before after → Read paper s n before a after
     reads-accepted a k after p q f =
-        let w = was-accepted (checked paper s n) a k p q in
+        let w = was-accepted counted (checked paper s n) a k p q in
         let g = holds s n (w .entries) (w .is) in
         record { answers = rw into p; contents = rw (into, w .is) (f (w .entries) (g .telegram) (g .same)) }

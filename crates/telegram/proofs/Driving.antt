@@ -2,14 +2,11 @@
 -- the answer where the loop ends. Assumes nothing.
 use mathlib.Core.Path.{_≡_, refl, sym, ap, _∙_, subst}
 use mathlib.Core.List.{List, [], _∷_, _++_, append-assoc}
-use Prim.Native.Nat.{ℕ, zero, suc, _+_, _*_, _≤_, _<_}
+use Prim.Native.Nat.{ℕ, _+_, _*_, _≤_, _<_}
 use native.Mathlib.Omega.{arith}
-use native.Mathlib.Nat.{add-zero}
 use lib.ListN.{length, length-append}
-use Rattle.format.specs.Packets.{Items}
-use Rattle.format.specs.Rules.{Earlier, Context, begun, step, due, past, moved, among, paper, packetPlace}
-use Rattle.format.specs.Rules as rules
-use Rattle.format.specs.Rules.Next.{go, over, breaks}
+use Rattle.format.specs.Rules.{Earlier, begun, step, due, past, moved, among, paper, packetPlace}
+use Rattle.format.specs.Rules.Next.{over, breaks}
 use Rattle.format.specs.Table.{fieldAt, words}
 use Rattle.format.specs.Telegrams.{Entry, entry, all, values, valuesIn, bitCount, Taken, Driven, Result, refusal, push, drive, whole}
 use Rattle.format.specs.Telegrams.Taken.{got, lacks}
@@ -26,6 +23,7 @@ use Rattle.telegram.specs.declared.state.State.{State}
 use Rattle.telegram.specs.declared.machine.Outcome.{Outcome}
 use Rattle.telegram.specs.declared.machine.Outcome.the-variants.{Go, Over, Breaks}
 use Rattle.telegram.proofs.Moves.{due-right}
+use Rattle.format.specs.Rules as rules
 
 -- ---- one entry more
 

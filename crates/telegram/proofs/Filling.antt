@@ -1,7 +1,6 @@
 -- The second run of the reader: what it has stored, and that the fields it takes are the entries of the telegram. Assumes nothing.
 use mathlib.Core.Path.{_≡_, refl, sym, ap, _∙_, subst}
 use mathlib.Core.List.{List, [], _∷_, _++_, append-nil, append-assoc}
-use mathlib.Core.Option.{some, none}
 use Prim.Native.Nat.{ℕ, suc, _+_, _-_, _*_, _^_, _<_, _≤_}
 use native.Mathlib.Nat.{add-zero}
 use native.Mathlib.Numerals.{add-one, one-add}
@@ -16,73 +15,18 @@ use Rattle.bits.specs.declared.Taken.the-variants.{Field, Short}
 use Rattle.bits.proofs.Bytes.{length-bitsOf}
 use Rattle.bits.proofs.Digits.{length-digits, valueOf-digits}
 use Rattle.bits.proofs.Fields.{IsField, taken, take-whole}
-use Rattle.format.specs.Packets.{Items, find, etcs}
-use Rattle.format.specs.Packets.Items.{end}
-use Rattle.format.specs.Rules.{State, paper, begun, due, field, past, moved, next, step}
-use Rattle.format.specs.Rules.Next.{over}
-use Rattle.format.specs.Table.{fieldAt, rowAt}
-use Rattle.format.specs.Telegrams.{Entry, entry, bits, values, valuesIn, Fits, Run, Telegram}
+use Rattle.format.specs.Rules.{paper}
+use Rattle.format.specs.Table.{fieldAt}
+use Rattle.format.specs.Telegrams.{Entry, bits, values, Telegram}
 use Rattle.format.specs.Telegrams.Result.{accepted}
-use Rattle.format.specs.Telegrams.Run.{last, more}
-use Rattle.format.proofs.Rows.{header-at}
-use Rattle.laws.proofs.Sources.{bitsIn-entry, width-positive}
-use Rattle.laws.proofs.Steps.{go-next, over-mark}
 use Rattle.laws.proofs.Prefix.{bits-no-prefix}
-use Rattle.telegram.specs.Machine.{todoOf, itemsOf, Tidy, TidyOn, Advanced}
+use Rattle.telegram.specs.Machine.{Advanced}
 use Rattle.telegram.specs.Filling.{Filling, Filled}
 use Rattle.telegram.specs.Reader.{valuesOver}
 use Rattle.telegram.specs.declared.todo.Todo.{Todo}
 use Rattle.telegram.specs.declared.todo.Ahead.{Ahead}
 use Rattle.telegram.specs.declared.todo.Ahead.the-variants.{On, Mark}
-use Rattle.telegram.proofs.Moves.{due-right, start-todo}
-use Rattle.telegram.proofs.Stepping.{width-in}
-
--- ---- the first entry of a run
-
--- from a state on, where u is to be sent
-record Goes (q : State) (u : Items) (rest : List Entry) : Type 0 where
-  state : State
-  here : state .at ≡ past q
-  todo : state .todo ≡ u
-  run : Run paper state rest
-
--- a run has a first entry: it is the last if nothing is next, and else the run goes on with what is
-record Held (q : State) (left : List Entry) : Type 0 where
-  value : ℕ
-  rest : List Entry
-  fits : Fits q value
-  front : left ≡ entry q value ∷ rest
-  mark : next (q .todo) value ≡ none → rest ≡ []
-  goes : (u : Items) → next (q .todo) value ≡ some u → Goes q u rest
-
-mark-last : next end 255 ≡ none
-unfolding next find etcs
-mark-last = refl
-
-over-next : (q : State) (v : ℕ) → step paper q v ≡ over → next (q .todo) v ≡ none
-over-next q v e = let m = over-mark paper q v e in rw (m .0, m .1) mark-last
-
-held : {q : State} {left : List Entry} → Run paper q left → Held q left
-held (last {s = q} {v = v} f e) =
-    let n = over-next q v e in
-    record {
-      value = v;
-      rest = [];
-      fits = f;
-      front = refl;
-      mark = λ h. refl;
-      goes = λ u h. let z : _≡_ {A = ℕ} 0 1 = cc in absurd (omega arith);
-    }
-held (more {s = q} {v = v} {t = t} {c = c} {es = es} f e r) =
-    let n = go-next paper q v t c e in
-    record {
-      value = v;
-      rest = es;
-      fits = f;
-      front = refl;
-      mark = λ h. cc;
-      goes = λ u h. record { state = moved q t c; here = refl; todo = cc; run = r };
-    }
+use Rattle.telegram.proofs.Runs.{stored, Onward, onward-first, valueDue, restDue, values-front, bits-front, positive, narrow, low, small, nothing-left, onward-next}
 
 -- ---- the bits in front
 
@@ -115,10 +59,6 @@ module _ (s : List ℕ) (n at w v : ℕ) (rest : List ℕ) (l : n ≤ 8 * length
 
 -- ---- the run of values
 
--- what is stored before i, the values xs from there on, and behind them what is there
-abbrev stored : List ℕ → List ℕ → ℕ → List ℕ
-stored out xs i = take i out ++ (xs ++ drop (length xs + i) out)
-
 stored-more : (out xs : List ℕ) (i v : ℕ) → i < length out → stored out (v ∷ xs) i ≡ stored (set out i v) xs (i + 1)
 stored-more out xs i v l =
     rw (
@@ -146,11 +86,7 @@ pub record Going (s : List ℕ) (n : ℕ) (before out : List ℕ) (t : Todo) (at
   pub within : n ≤ 8 * length s
   -- what is left of it
   pub left : List Entry
-  pub state : State
-  pub run : Run paper state left
-  pub here : state .at ≡ at
-  pub todo : state .todo ≡ todoOf t
-  pub tidy : Tidy t
+  pub onward : Onward t at left
   pub ahead : drop at (take n (bitsOf s)) ≡ bits left
   -- and what is stored
   pub holds : valuesOver (accepted entries) before ≡ stored out (values left) i
@@ -161,7 +97,6 @@ pub record Going (s : List ℕ) (n : ℕ) (before out : List ℕ) (t : Todo) (at
 -- before the first field
 pub going-first : (s : List ℕ) (n : ℕ) (out : List ℕ) → Filling s n out
     → Going s n out out (record { node = 1; left = 0; outer = 0 }) 0 0
-unfolding begun rowAt
 going-first s n out f =
     record {
       entries = f .entries;
@@ -169,11 +104,7 @@ going-first s n out f =
       same = f .same;
       within = f .within;
       left = f .entries;
-      state = begun;
-      run = f .telegram;
-      here = refl;
-      todo = sym (start-todo 1 refl ∙ header-at);
-      tidy = record { inside = omega arith; settled = λ e. refl };
+      onward = onward-first (f .telegram);
       ahead = f .same;
       holds = ap (λ (k : ℕ). values (f .entries) ++ drop k out) (sym (add-zero (length (values (f .entries)))));
       count = omega arith;
@@ -182,8 +113,8 @@ going-first s n out f =
     }
 
 module _ {s : List ℕ} {n : ℕ} {before out : List ℕ} {t : Todo} {at i : ℕ} (g : Going s n before out t at i) where
-  abbrev first : Held (g .state) (g .left)
-  first = held (g .run)
+  abbrev o : Onward t at (g .left)
+  o = g .onward
 
   -- the telegram in hand is any with these bits
   filled-by : (after : List ℕ) → after ≡ valuesOver (accepted (g .entries)) before → Filled s n before after
@@ -192,37 +123,22 @@ module _ {s : List ℕ} {n : ℕ} {before out : List ℕ} {t : Todo} {at i : ℕ
       h ∙ ap (λ x. valuesOver (accepted x) before) (sym (one .0))
 
   module _ {w : ℕ} (ew : w ≡ fieldAt (t .node) .width) where
-    width-due : field (g .state) .width ≡ w
-    width-due = ap (λ x. due x .width) (g .todo) ∙ ap (λ x. x .width) (sym (due-right t (g .tidy))) ∙ sym ew
-
-    positive : 0 < w
-    positive = rw ew (width-positive (fieldAt (t .node)))
-
-    narrow : w ≤ 64
-    narrow = rw ew (width-in (fieldAt (t .node)))
-
-    bits-front : drop at (take n (bitsOf s)) ≡ digits w (first .value) ++ bits (first .rest)
-    bits-front =
-        g .ahead ∙ ap bits (first .front)
-        ∙ ap (λ x. x ++ bits (first .rest)) (bitsIn-entry (g .state) (first .value) ∙ ap (λ k. digits k (first .value)) width-due)
+    ahead-front : drop at (take n (bitsOf s)) ≡ digits w (valueDue o) ++ bits (restDue o)
+    ahead-front = g .ahead ∙ bits-front o ew
 
     inside : at + w ≤ n
-    inside = front-within s n at w (first .value) (bits (first .rest)) (g .within) positive bits-front
+    inside = front-within s n at w (valueDue o) (bits (restDue o)) (g .within) (positive o ew) ahead-front
 
-    -- no field ends past bit 830
-    pub low : at + w ≤ 830
-    low = rw (← width-due, ← (g .here)) (first .fits .room)
-
-    -- and the run has room for its value
+    -- the run has room for its value
     pub in-out : i < length out
-    in-out = omega (arith, low, positive, g .count, g .size, g .room)
+    in-out = omega (arith, low o ew, positive o ew, g .count, g .size, g .room)
 
     -- what taking it answers
     module _ {r : Taken} (er : r ≡ takeAt s n w at) where
       -- a whole field is there
       pub never-short : r ≡ Short → ⊥
       never-short e =
-          let h = take-whole s n w at narrow inside (g .within) in
+          let h = take-whole s n w at (narrow o ew) inside (g .within) in
           let z : _≡_ {A = ℕ} 0 1 = cc in omega arith
 
       module _ {v : ℕ} {d : Cursor} (ed : r ≡ Field v d) where
@@ -231,49 +147,38 @@ module _ {s : List ℕ} {n : ℕ} {before out : List ℕ} {t : Todo} {at i : ℕ
 
         -- the measure
         pub less : n - d .at < n - at
-        less = let f = is-field in let p = positive in omega (arith, f .past, f .within)
+        less = let f = is-field in let p = positive o ew in omega (arith, f .past, f .within)
 
         -- it is the entry's value
-        value-is : v ≡ first .value
+        value-is : v ≡ valueDue o
         value-is =
             is-field .value
-            ∙ front-value s n at w (first .value) (bits (first .rest)) (g .within) positive bits-front
-            (subst (λ k. first .value < 2 ^ k) width-due (first .fits .small))
+            ∙ front-value s n at w (valueDue o) (bits (restDue o)) (g .within) (positive o ew) ahead-front (small o ew)
 
-        values-front : values (g .left) ≡ v ∷ values (first .rest)
-        unfolding valuesIn
-        values-front = ap values (first .front) ∙ ap (λ x. x ∷ values (first .rest)) (sym value-is)
-
-        -- what the rows say is next is what is
-        items-next : (x : Ahead) → Advanced t v x → next (g .state .todo) (first .value) ≡ itemsOf x
-        items-next x a = ap (λ y. next y (first .value)) (g .todo) ∙ ap (next (todoOf t)) (sym value-is) ∙ a .items
+        values-left : values (g .left) ≡ v ∷ values (restDue o)
+        values-left = values-front o ∙ ap (λ x. x ∷ values (restDue o)) (sym value-is)
 
         -- after the end mark every value is stored
         pub fills : {x : Ahead} → Advanced t v x → x ≡ Mark → Filled s n before (set out i v)
-        fills {x} a m =
-            let ends : first .rest ≡ [] = first .mark (items-next x a ∙ ap itemsOf m) in
+        fills a m =
+            let ends = nothing-left o ew value-is a m in
             filled-by (set out i v)
-            (sym (g .holds ∙ ap (λ y. stored out y i) (values-front ∙ ap (λ y. v ∷ values y) ends) ∙ stored-last out i v in-out))
+            (sym (g .holds ∙ ap (λ y. stored out y i) (values-left ∙ ap (λ y. v ∷ values y) ends) ∙ stored-last out i v in-out))
 
         -- after another field the run goes on
         pub goes-further : {x : Ahead} {u : Todo} → Advanced t v x → x ≡ On u → Going s n before (set out i v) u (d .at) (i + 1)
         goes-further {x} {u} a m =
-            let go = first .goes (todoOf u) (items-next x a ∙ ap itemsOf m) in
             let f = is-field in
             record {
               entries = g .entries;
               telegram = g .telegram;
               same = g .same;
               within = g .within;
-              left = first .rest;
-              state = go .state;
-              run = go .run;
-              here = go .here ∙ rw (width-due, g .here, f .past);
-              todo = go .todo;
-              tidy = subst TidyOn m (a .tidy);
-              ahead = rw (f .past) (front-rest s n at w (first .value) (bits (first .rest)) (g .within) positive bits-front);
-              holds = g .holds ∙ ap (λ y. stored out y i) values-front ∙ stored-more out (values (first .rest)) i v in-out;
-              count = omega (arith, f .past, positive, g .count);
+              left = restDue o;
+              onward = subst (λ k. Onward u k (restDue o)) (sym (f .past)) (onward-next o ew value-is a m);
+              ahead = rw (f .past) (front-rest s n at w (valueDue o) (bits (restDue o)) (g .within) (positive o ew) ahead-front);
+              holds = g .holds ∙ ap (λ y. stored out y i) values-left ∙ stored-more out (values (restDue o)) i v in-out;
+              count = omega (arith, f .past, positive o ew, g .count);
               size = length-set out i v ∙ g .size;
               room = g .room;
             }

@@ -9,8 +9,11 @@ pub mod Directions
 pub mod Driving
 pub mod Scanning
 pub mod Measuring
+pub mod Runs
 pub mod Filling
+pub mod Storing
 pub mod Checking
+pub mod Writing
 pub mod Answers
 pub mod Once
 pub mod Cheats

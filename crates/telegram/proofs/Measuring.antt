@@ -1,17 +1,15 @@
 -- What the loop that measures a list of values goes by: the driver over values. Assumes nothing.
-use mathlib.Core.Path.{_≡_, refl, sym, ap, _∙_, subst}
+use mathlib.Core.Path.{_≡_, refl, ap, _∙_}
 use mathlib.Core.Bool.{true, false}
-use mathlib.Core.List.{List, [], _∷_, _++_}
-use Prim.Native.Nat.{ℕ, zero, suc, _+_, _-_, _^_, _≤_, _<_}
+use mathlib.Core.List.{List, [], _∷_}
+use Prim.Native.Nat.{ℕ, _+_, _-_, _^_, _≤_, _<_}
 use native.Mathlib.Numerals.{add-one}
 use native.Mathlib.Omega.{arith}
 use borrow.Author.Tests.{ltb-true, le-leb, lt-leb}
 use lib.Dec.{ltb}
 use lib.ListN.{length, drop, getD, length-drop, drop-of-length-le}
 use lib.Seq.{drop-cons}
-use Rattle.format.specs.Fields as fields
 use Rattle.format.specs.Rules.{Earlier, begun, paper, packetPlace}
-use Rattle.format.specs.Rules as rules
 use Rattle.format.specs.Table.{fieldAt, words}
 use Rattle.format.specs.Telegrams.{valuesIn, fromValues, write}
 use Rattle.format.specs.Telegrams.Taken.{got, lacks}
@@ -19,7 +17,7 @@ use Rattle.format.specs.Telegrams.Result.{refused}
 use Rattle.format.specs.declared.Kind.{Kind}
 use Rattle.format.specs.declared.Kind.the-variants.{Ended, Trailing, Wide, Full}
 use Rattle.format.specs.declared.Answer.the-variants.{Accepted}
-use Rattle.laws.proofs.Sources.{Listed, from-values, width-positive}
+use Rattle.laws.proofs.Sources.{Listed, from-values}
 use Rattle.telegram.specs.Machine.{view, Beginning}
 use Rattle.telegram.specs.Seen.{Passed, Noticed}
 use Rattle.telegram.specs.Writer.{sizeOf}
@@ -27,6 +25,8 @@ use Rattle.telegram.specs.declared.state.State.{State}
 use Rattle.telegram.specs.declared.machine.Outcome.{Outcome}
 use Rattle.telegram.specs.declared.machine.Outcome.the-variants.{Go, Over, Breaks}
 use Rattle.telegram.proofs.Driving.{Drives, drives-first, due-is, refused-lacking, refused-broken, accepted-mark, refused-trailing, mark-sized, moves, drives-on}
+use Rattle.format.specs.Fields as fields
+use Rattle.format.specs.Rules as rules
 
 -- ---- the value for the field that is due
 

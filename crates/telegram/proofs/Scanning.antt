@@ -1,50 +1,40 @@
 -- What the loop that checks a telegram goes by: the driver over bits, each taken through the cursor. Assumes nothing.
-use mathlib.Core.Path.{_≡_, refl, sym, ap, _∙_, subst}
-use mathlib.Core.Bool.{Bool, true, false, cond}
-use mathlib.Core.List.{List, [], _∷_, _++_, append-assoc}
-use Prim.Native.Nat.{ℕ, zero, suc, _+_, _*_, _-_, _^_, _≤_, _<_}
+use mathlib.Core.Path.{_≡_, sym, ap, _∙_, subst}
+use mathlib.Core.List.{List, []}
+use Prim.Native.Nat.{ℕ, _+_, _*_, _-_, _^_, _≤_, _<_}
 use native.Mathlib.Omega.{arith}
 use native.Mathlib.Nat.{lt-of-not-le}
 use native.Mathlib.Decide.{decLe}
 use borrow.Author.Tests.{le-leb, lt-leb}
-use lib.ListN.{length, take, drop, length-drop, length-append, drop-of-length-le}
+use lib.ListN.{length, take, drop, length-drop, drop-of-length-le}
 use lib.Seq.{take-all, take-add, take-take, drop-drop, drop-at, length-take-le}
 use Rattle.bits.specs.Bits.{valueOf, bitsOf}
 use Rattle.bits.specs.Take.{fieldBits, takeAt}
 use Rattle.bits.specs.declared.Cursor.{Cursor}
 use Rattle.bits.specs.declared.Taken.{Taken}
 use Rattle.bits.specs.declared.Taken.the-variants.{Field, Short}
-use Rattle.bits.proofs.Bytes.{length-bitsOf, below-bitsOf, below-take, below-drop}
+use Rattle.bits.proofs.Bytes.{length-bitsOf, below-bitsOf, below-take}
 use Rattle.bits.proofs.Fields.{IsField, taken, take-whole}
-use Rattle.format.specs.Rules.{Earlier, begun, step, due, past, among, paper, packetPlace, sameAsEarlier}
-use Rattle.format.specs.Fields.Rule.{direction}
-use Rattle.format.specs.Rules.Next.{over, breaks}
+use Rattle.format.specs.Rules.{Earlier, begun, due, past, paper, packetPlace}
+use Rattle.format.specs.Rules.Next.{over}
 use Rattle.format.specs.Table.{fieldAt, words}
-use Rattle.format.specs.Telegrams.{Entry, entry, all, bitsIn, values, valuesIn, Driven, refusal, push, fromBits, drive, whole, read}
+use Rattle.format.specs.Telegrams.{all, bitsIn, fromBits, whole, read}
 use Rattle.format.specs.Telegrams.Taken.{got, lacks}
-use Rattle.format.specs.Telegrams.Driven.{ended, stopped}
 use Rattle.format.specs.Telegrams.Result.{refused}
 use Rattle.format.specs.declared.Kind.{Kind}
 use Rattle.format.specs.declared.Kind.the-variants.{Ended, Trailing}
-use Rattle.format.specs.declared.Answer.the-variants.{Accepted, Refused}
+use Rattle.format.specs.declared.Answer.the-variants.{Accepted}
 use Rattle.laws.proofs.Sources.{Sent, from-bits, width-positive}
-use Rattle.laws.proofs.Steps.{over-mark}
-use Rattle.laws.proofs.Turns.{pushes, pushes-ended, pushes-stopped, pushes-one, one-mark, one-broken, one-lacking, one-field-bounds}
-use Rattle.telegram.specs.Machine.{todoOf, contextOf, view, nextOf, earlierAfter, ruleAt, Sound, Beginning, Directing, Stepped}
-use Rattle.telegram.specs.Seen.{Same, Held, Repeated}
+use Rattle.telegram.specs.Machine.{view, Beginning}
 use Rattle.telegram.specs.Reader.{answerOf}
 use Rattle.telegram.specs.declared.state.State.{State}
-use Rattle.telegram.specs.declared.state.Level.the-variants.{Packet}
 use Rattle.telegram.specs.declared.machine.Outcome.{Outcome}
 use Rattle.telegram.specs.declared.machine.Outcome.the-variants.{Go, Over, Breaks}
-use Rattle.telegram.proofs.Moves.{due-right}
 use Rattle.telegram.proofs.Stepping.{width-in}
-use Rattle.telegram.proofs.Directions.{same-after}
+use Rattle.telegram.specs.Seen.{Passed, Noticed}
+use Rattle.telegram.proofs.Driving.{Drives, drives-first, due-is, here, refused-lacking, refused-broken, accepted-mark, refused-trailing, mark-counted, moves, drives-on}
 use Rattle.format.specs.Fields as fields
 use Rattle.format.specs.Rules as rules
-use Rattle.telegram.specs.Seen.{Passed, Noticed}
-use Rattle.telegram.proofs.Driving.{Drives, result, drives-first, due-is, here, refused-lacking, refused-broken, accepted-mark, refused-trailing, mark-counted, moves, drives-on}
-use Rattle.laws.proofs.Sources.{Sent, from-bits, width-positive}
 
 -- all bits from n on
 pub rest-is : (s : List ℕ) (n w : ℕ) → 8 * length s ≤ n + w → fieldBits s w n ≡ drop n (bitsOf s)

@@ -7,7 +7,7 @@ use lib.Dec.{eqb, leb}
 use lib.ListN.{length, take, drop}
 use Rattle.bits.specs.Bits.{valueOf, bitsOf, bytesFor}
 use Rattle.format.specs.Rules.{Terms}
-use Rattle.format.specs.Telegrams.{Result, read, values}
+use Rattle.format.specs.Telegrams.{Entry, Result, read, values}
 use Rattle.format.specs.Telegrams.Result.{accepted, refused}
 use Rattle.format.specs.declared.Kind.{Kind}
 use Rattle.format.specs.declared.Kind.the-variants.{Room, Size, Padding}
@@ -34,10 +34,14 @@ checked p s n = cond (sized s n) (cond (clear s n) (read p (take n (bitsOf s))) 
 unfoldable pub readInto : Terms → List ℕ → ℕ → ℕ → Result
 readInto p s n room = cond (leb 830 room) (checked p s n) (atOnce Room)
 
+-- an answer: a count of an accepted telegram, or the refusal as it stands
+abbrev pub answered : (List Entry → ℕ) → Result → Answer
+answered count (accepted es) = Accepted (count es)
+answered count (refused r) = Refused r
+
 -- "Gives the count"
 abbrev pub answerOf : Result → Answer
-answerOf (accepted es) = Accepted (length (values es))
-answerOf (refused r) = Refused r
+answerOf r = answered (λ es. length (values es)) r
 
 -- "one value per field in order of sending"; "output past the last value .. keeps its former contents"; "A refusal .. changes no output"
 abbrev pub valuesOver : Result → List ℕ → List ℕ

@@ -1,8 +1,8 @@
 -- Document 01: what the writer answers, and what the lent bytes then hold. Definitions alone.
-use Prim.Native.Nat.{ℕ, _≤_}
 use mathlib.Core.Path.{_≡_}
 use mathlib.Core.Bool.{cond}
 use mathlib.Core.List.{List, _++_}
+use Prim.Native.Nat.{ℕ, _≤_}
 use lib.Dec.{leb}
 use lib.ListN.{length, drop}
 use Rattle.bits.specs.Bits.{bytesOf}
@@ -11,8 +11,7 @@ use Rattle.format.specs.Telegrams.{Entry, Result, Telegram, bits, bitCount, val
 use Rattle.format.specs.Telegrams.Result.{accepted, refused}
 use Rattle.format.specs.declared.Kind.the-variants.{Room}
 use Rattle.format.specs.declared.Answer.{Answer}
-use Rattle.format.specs.declared.Answer.the-variants.{Accepted, Refused}
-use Rattle.telegram.specs.Reader.{atOnce}
+use Rattle.telegram.specs.Reader.{atOnce, answered}
 
 -- the writer, lent so many bytes. "1: output shorter than .. 104 bytes"
 unfoldable pub writeInto : Terms → List ℕ → ℕ → Result
@@ -20,8 +19,7 @@ writeInto p vs room = cond (leb 104 room) (write p vs) (atOnce Room)
 
 -- "Gives n"
 abbrev pub sizeOf : Result → Answer
-sizeOf (accepted es) = Accepted (bitCount es)
-sizeOf (refused r) = Refused r
+sizeOf r = answered bitCount r
 
 -- "fills at least 104 lent bytes"; "output .. past byte ceil(n/8) - 1, keeps its former contents"; "A refusal .. changes no output"
 abbrev pub bytesOver : Result → List ℕ → List ℕ

@@ -4,7 +4,8 @@ use Prim.Native.Nat.{_-_}
 use native.Mathlib.Omega.{arith}
 use borrow.Author.Needs.{needs}
 use lib.ListN.{length-set}
-use Rattle.telegram.proofs.Filling.{Going, going-first, low, in-out, never-short, less, fills, goes-further}
+use Rattle.telegram.proofs.Filling.{Going, going-first, in-out, never-short, less, fills, goes-further}
+use Rattle.telegram.proofs.Runs.{low}
 use Rattle.telegram.proofs.reader.fill.Statement.{statement}
 use Rattle.telegram.proofs.reader.fill.Tie as tie
 
@@ -21,7 +22,7 @@ loop-holds : tie.Need-loop-holds Inv-loop μ-loop
 loop-holds c = going-first _ _ _ (c .before .before .before .pre)
 
 width-requires : tie.Need-width-requires Inv-loop μ-loop
-width-requires c κs = record { table = c .before .before .rows .ensures; inside = c .before .loop .inv .tidy .inside }
+width-requires c κs = record { table = c .before .before .rows .ensures; inside = c .before .loop .inv .onward .tidy .inside }
 
 take-requires : tie.Need-take-requires Inv-loop μ-loop
 take-requires c κs = search needs
@@ -43,7 +44,7 @@ returns c =
 mul-out : tie.Need-mul-out Inv-loop μ-loop
 mul-out c =
     let b = c .before .before .before .before in
-    omega (arith, low (b .before .before .loop .inv) (b .width .ensures))
+    omega (arith, low (b .before .before .loop .inv .onward) (b .width .ensures))
 
 slice-write-out : tie.Need-slice-write-out Inv-loop μ-loop
 slice-write-out c =
@@ -53,7 +54,7 @@ slice-write-out c =
 advance-requires : tie.Need-advance-requires Inv-loop μ-loop
 advance-requires c κs =
     let b = c .before .before .before .before .before .before .before in
-    (record { table = b .before .rows .ensures; inside = b .loop .inv .tidy .inside }, b .loop .inv .tidy)
+    (record { table = b .before .rows .ensures; inside = b .loop .inv .onward .tidy .inside }, b .loop .inv .onward .tidy)
 
 enum-told-2 : tie.Need-enum-told-2 Inv-loop μ-loop
 enum-told-2 c = search needs
@@ -76,7 +77,7 @@ enum-known-u c = search needs
 add-i : tie.Need-add-i Inv-loop μ-loop
 add-i c =
     let b = c .before .before .before .before .before .before .before .before .before in
-    omega (arith, low (b .before .before .loop .inv) (b .width .ensures))
+    omega (arith, low (b .before .before .loop .inv .onward) (b .width .ensures))
 
 loop-less : tie.Need-loop-less Inv-loop μ-loop
 loop-less c =

@@ -1,7 +1,7 @@
 -- `telegram::reader::scan` meets its contract. The loop's invariant, `Scans`: what the definition answers from the start is what it
 -- answers from here, after the entries so far. The measure is how many bits are left. Assumes nothing.
 use mathlib.Core.Path.{refl, sym, ap, _∙_}
-use Prim.Native.Nat.{_-_, _≤_, _<_}
+use Prim.Native.Nat.{_-_}
 use native.Mathlib.Omega.{arith}
 use borrow.Author.Needs.{needs}
 use Rattle.telegram.specs.Reader.{answerOf}

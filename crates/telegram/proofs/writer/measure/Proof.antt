@@ -1,7 +1,7 @@
 -- `telegram::writer::measure` meets its contract. The loop's invariant, `Measures`: what the definition answers from the start is what it
 -- answers from here, after the entries so far. The measure is how many values are left. Assumes nothing.
 use mathlib.Core.Path.{refl, sym, ap, _∙_}
-use Prim.Native.Nat.{_-_, _≤_, _<_}
+use Prim.Native.Nat.{_-_}
 use native.Mathlib.Omega.{arith}
 use borrow.Author.Needs.{needs}
 use borrow.Author.Tests.{not-true, not-false}
@@ -12,16 +12,6 @@ use Rattle.telegram.proofs.Stepping.{width-in}
 use Rattle.telegram.proofs.Measuring.{Measures, measures-first, measures-on, fits, ends-none, ends-wide, ends-full, ends-broken, ends-well, ends-trailing}
 use Rattle.telegram.proofs.writer.measure.Statement.{statement}
 use Rattle.telegram.proofs.writer.measure.Tie as tie
-use Rattle.telegram.proofs.writer.measure.Reads as reads
-use Rattle.telegram.proofs.writer.measure.Lts as lts
-use Rattle.bits.proofs.fits.Reads as fits-reads
-use Rattle.format.proofs.table.rows.Reads as rows-reads
-use Rattle.telegram.proofs.answer.refuse.Reads as refuse-reads
-use Rattle.telegram.proofs.driver.keep.Reads as keep-reads
-use Rattle.telegram.proofs.driver.turn.Reads as turn-reads
-use Rattle.telegram.proofs.rows.width.Reads as width-reads
-use Rattle.telegram.proofs.state.begin.Reads as begin-reads
-use Rattle.telegram.proofs.state.place.Reads as place-reads
 
 abbrev Inv-loop : tie.InvT-loop
 Inv-loop values rows seen₀ met₀ st₀ i₀ seen met st i = Measures values rows seen met st i
@@ -29,85 +19,66 @@ Inv-loop values rows seen₀ met₀ st₀ i₀ seen met st i = Measures values r
 abbrev μ-loop : tie.MeasureT-loop
 μ-loop values rows seen₀ met₀ st₀ i₀ seen met st i = length values - i
 
--- src/writer.rt:42:16
 rows-requires : tie.Need-rows-requires Inv-loop μ-loop
 rows-requires c κs = search needs
 
--- src/writer.rt:45:9
 begin-requires : tie.Need-begin-requires Inv-loop μ-loop
 begin-requires c κs = search needs
 
--- src/writer.rt:47:5
 loop-holds : tie.Need-loop-holds Inv-loop μ-loop
 loop-holds c = measures-first (c .before .rows .ensures) refl (c .begin .ensures)
 
--- src/writer.rt:50:13
 width-requires : tie.Need-width-requires Inv-loop μ-loop
 width-requires c κs = record { table = c .before .before .loop .inv .drives .table; inside = c .before .before .loop .inv .drives .sound .tidy .inside }
 
--- src/writer.rt:52:40
 place-requires : tie.Need-place-requires Inv-loop μ-loop
 place-requires c κs = search needs
 
--- src/writer.rt:52:13
 refuse-requires : tie.Need-refuse-requires Inv-loop μ-loop
 refuse-requires c κs = search needs
 
--- src/writer.rt:52:13
 returns : tie.Need-returns Inv-loop μ-loop
 returns c =
     c .refuse .ensures ∙ sym (ap sizeOf (ends-none (c .before .before .before .before .before .before .loop .inv) (c .before .before .if1 .taken) (c .before .place .ensures)))
 
--- src/writer.rt:54:17
 mul-v : tie.Need-mul-v Inv-loop μ-loop
 mul-v c = search needs
 
--- src/writer.rt:54:17
 shared-slice-read-v : tie.Need-shared-slice-read-v Inv-loop μ-loop
 shared-slice-read-v c = omega arith
 
--- src/writer.rt:55:13
 fits-requires : tie.Need-fits-requires Inv-loop μ-loop
 fits-requires c κs = search needs
 
--- src/writer.rt:56:39
 place-requires-2 : tie.Need-place-requires-2 Inv-loop μ-loop
 place-requires-2 c κs = search needs
 
--- src/writer.rt:56:13
 refuse-requires-2 : tie.Need-refuse-requires-2 Inv-loop μ-loop
 refuse-requires-2 c κs = search needs
 
--- src/writer.rt:56:13
 returns-2 : tie.Need-returns-2 Inv-loop μ-loop
 returns-2 c =
     c .refuse2 .ensures
     ∙ sym (ap sizeOf (ends-wide (c .before .before .before .before .before .before .before .before .before .loop .inv) (c .before .before .before .before .before .if1 .left) (c .before .before .before .before .before .before .width .ensures) (sym (c .before .before .before .fits2 .ensures) ∙ not-true _ (c .before .before .if2 .taken)) (c .before .place2 .ensures)))
 
--- src/writer.rt:58:18
 add-if3 : tie.Need-add-if3 Inv-loop μ-loop
 add-if3 c =
     let w = width-in (fieldAt (c .before .before .before .before .before .before .before .before .loop .st .todo .node)) in
     omega (arith, c .before .before .before .before .before .before .before .before .loop .inv .low, c .before .before .before .before .before .width .ensures)
 
--- src/writer.rt:59:39
 place-requires-3 : tie.Need-place-requires-3 Inv-loop μ-loop
 place-requires-3 c κs = search needs
 
--- src/writer.rt:59:13
 refuse-requires-3 : tie.Need-refuse-requires-3 Inv-loop μ-loop
 refuse-requires-3 c κs = search needs
 
--- src/writer.rt:59:13
 returns-3 : tie.Need-returns-3 Inv-loop μ-loop
 returns-3 c =
     c .refuse3 .ensures ∙ sym (ap sizeOf (ends-full (c .before .before .before .before .before .before .before .before .before .before .before .loop .inv) (c .before .before .before .before .before .before .before .if1 .left) (c .before .before .before .before .before .before .before .before .width .ensures) (sym (c .before .before .before .before .before .fits2 .ensures) ∙ not-false _ (c .before .before .before .before .if2 .left)) (c .before .before .if3 .taken) (c .before .place3 .ensures)))
 
--- src/writer.rt:61:27
 slice-aggregate-turn : tie.Need-slice-aggregate-turn Inv-loop μ-loop
 slice-aggregate-turn c = sym (c .before .before .before .before .before .before .before .before .before .before .before .loop .inv .drives .long)
 
--- src/writer.rt:61:15
 turn-requires : tie.Need-turn-requires Inv-loop μ-loop
 turn-requires c κs =
     let m = c .before .before .before .before .before .before .before .before .before .before .before .loop .inv in
@@ -116,64 +87,50 @@ turn-requires c κs =
       inside = omega (arith, m .drives .noted, m .low, m .drives .long);
     }
 
--- src/writer.rt:62:29
 enum-known-kind : tie.Need-enum-known-kind Inv-loop μ-loop
 enum-known-kind c = search needs
 
--- src/writer.rt:63:37
 place-requires-4 : tie.Need-place-requires-4 Inv-loop μ-loop
 place-requires-4 c κs = search needs
 
--- src/writer.rt:63:17
 refuse-requires-4 : tie.Need-refuse-requires-4 Inv-loop μ-loop
 refuse-requires-4 c κs = search needs
 
--- src/writer.rt:63:17
 returns-4 : tie.Need-returns-4 Inv-loop μ-loop
 returns-4 c =
     c .refuse4 .ensures ∙ sym (ap sizeOf (ends-broken (c .before .before .before .before .before .before .before .before .before .before .before .before .before .before .before .before .before .loop .inv) (c .before .before .before .before .before .before .before .before .before .before .before .before .before .if1 .left) (c .before .before .before .before .before .before .before .before .before .before .before .before .before .before .width .ensures) (sym (c .before .before .before .before .before .before .before .before .before .before .before .fits2 .ensures) ∙ not-false _ (c .before .before .before .before .before .before .before .before .before .before .if2 .left)) (c .before .before .before .before .before .before .before .before .if3 .left) (c .before .before .before .before .before .turn .ensures) (c .before .before .before .kind .given .1) (c .before .place4 .ensures)))
 
--- src/writer.rt:66:20
 enum-told : tie.Need-enum-told Inv-loop μ-loop
 enum-told c = search needs
 
--- src/writer.rt:66:20
 add-if4 : tie.Need-add-if4 Inv-loop μ-loop
 add-if4 c = omega arith
 
--- src/writer.rt:67:45
 add-t37 : tie.Need-add-t37 Inv-loop μ-loop
 add-t37 c =
     let w = width-in (fieldAt (c .before .before .before .before .before .before .before .before .before .before .before .before .before .before .before .before .loop .st .todo .node)) in
     omega (arith, c .before .before .before .before .before .before .before .before .before .before .before .before .before .before .before .before .loop .inv .low, c .before .before .before .before .before .before .before .before .before .before .before .before .before .width .ensures)
 
--- src/writer.rt:67:21
 returns-5 : tie.Need-returns-5 Inv-loop μ-loop
 returns-5 c = ends-well (c .before .before .before .before .before .before .before .before .before .before .before .before .before .before .before .before .loop .inv) (c .before .before .before .before .before .before .before .before .before .before .before .before .if1 .left) (c .before .before .before .before .before .before .before .before .before .before .before .before .before .width .ensures) (sym (c .before .before .before .before .before .before .before .before .before .before .fits2 .ensures) ∙ not-false _ (c .before .before .before .before .before .before .before .before .before .if2 .left)) (c .before .before .before .before .before .before .before .if3 .left) (c .before .before .before .before .turn .ensures) (c .before .before .enum-told .given .1) (c .before .if4 .taken)
 
--- src/writer.rt:69:47
 place-requires-5 : tie.Need-place-requires-5 Inv-loop μ-loop
 place-requires-5 c κs = search needs
 
--- src/writer.rt:69:17
 refuse-requires-5 : tie.Need-refuse-requires-5 Inv-loop μ-loop
 refuse-requires-5 c κs = search needs
 
--- src/writer.rt:69:17
 returns-6 : tie.Need-returns-6 Inv-loop μ-loop
 returns-6 c =
     c .refuse5 .ensures
     ∙ sym (ap sizeOf (ends-trailing (c .before .before .before .before .before .before .before .before .before .before .before .before .before .before .before .before .before .loop .inv) (c .before .before .before .before .before .before .before .before .before .before .before .before .before .if1 .left) (c .before .before .before .before .before .before .before .before .before .before .before .before .before .before .width .ensures) (sym (c .before .before .before .before .before .before .before .before .before .before .before .fits2 .ensures) ∙ not-false _ (c .before .before .before .before .before .before .before .before .before .before .if2 .left)) (c .before .before .before .before .before .before .before .before .if3 .left) (c .before .before .before .before .before .turn .ensures) (c .before .before .before .enum-told .given .1) (c .before .before .if4 .left) (c .before .place5 .ensures)))
 
--- src/writer.rt:71:25
 enum-known-after : tie.Need-enum-known-after Inv-loop μ-loop
 enum-known-after c = search needs
 
--- src/writer.rt:72:35
 slice-aggregate-keep : tie.Need-slice-aggregate-keep Inv-loop μ-loop
 slice-aggregate-keep c = sym (c .before .before .before .before .before .before .before .before .before .before .before .before .before .before .before .before .before .loop .inv .drives .long)
 
--- src/writer.rt:72:17
 keep-requires : tie.Need-keep-requires Inv-loop μ-loop
 keep-requires c κs =
     let m = c .before .before .before .before .before .before .before .before .before .before .before .before .before .before .before .before .before .loop .inv in
@@ -182,15 +139,12 @@ keep-requires c κs =
       inside = omega (arith, m .drives .noted, m .low, m .drives .long);
     }
 
--- src/writer.rt:74:17
 add-i : tie.Need-add-i Inv-loop μ-loop
 add-i c = omega (arith, c .before .before .before .before .before .before .before .before .before .before .before .before .before .before .before .before .before .before .before .before .before .before .before .good, c .before .before .before .before .before .before .before .before .before .before .before .before .before .before .before .if1 .left)
 
--- src/writer.rt:47:5
 loop-less : tie.Need-loop-less Inv-loop μ-loop
 loop-less c = omega arith
 
--- src/writer.rt:47:5
 loop-again : tie.Need-loop-again Inv-loop μ-loop
 loop-again c = measures-on (c .before .before .before .before .before .before .before .before .before .before .before .before .before .before .before .before .before .before .before .loop .inv) (c .before .before .before .before .before .before .before .before .before .before .before .before .before .before .before .if1 .left) (c .before .before .before .before .before .before .before .before .before .before .before .before .before .before .before .before .width .ensures) (sym (c .before .before .before .before .before .before .before .before .before .before .before .before .before .fits2 .ensures) ∙ not-false _ (c .before .before .before .before .before .before .before .before .before .before .before .before .if2 .left)) (c .before .before .before .before .before .before .before .before .before .before .if3 .left) (c .before .before .before .before .before .before .before .turn .ensures) (c .before .before .before .before .before .after .given .1) (c .before .keep .ensures)
 
