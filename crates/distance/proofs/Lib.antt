@@ -1,0 +1,3 @@
+-- One answer to each promise.
+pub mod Scales
+pub mod Once

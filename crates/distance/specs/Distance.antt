@@ -1,0 +1,49 @@
+-- Document 01, "Distances and the normal form": "Q_SCALE 0, 1, 2 is a step of 1, 10, 100 dm". Definitions and worked examples.
+use mathlib.Core.Path.{_≡_, refl}
+use mathlib.Core.Bool.{Bool, true, false, _&&_}
+use mathlib.Core.List.{[], _∷_}
+use Prim.Native.Nat.{ℕ, zero, suc, _*_, _/_, _%_, _^_}
+use lib.Dec.{eqb, ltb}
+use Rattle.distance.specs.declared.Scale.{Scale}
+use Rattle.distance.specs.declared.Scale.the-variants.{Tenths, Metres, Tens}
+use Rattle.distance.specs.declared.Scaled.{Scaled}
+use Rattle.distance.specs.declared.Scaled.the-variants.{By, Not}
+use Rattle.distance.specs.declared.Told.{Told}
+use Rattle.distance.specs.declared.Told.the-variants as told
+
+-- the Q_SCALE of a scale, and the decimetres of a step of it
+abbrev pub numberOf : Scale → ℕ
+numberOf Tenths = 0
+numberOf Metres = 1
+numberOf Tens = 2
+
+abbrev pub stepOf : Scale → ℕ
+stepOf q = 10 ^ numberOf q
+
+unfoldable pub scaledBy : ℕ → Scaled
+scaledBy zero = By Tenths
+scaledBy (suc zero) = By Metres
+scaledBy (suc (suc zero)) = By Tens
+scaledBy (suc (suc (suc n))) = Not
+
+abbrev pub inDecimetres : Scale → ℕ → ℕ
+inDecimetres q n = n * stepOf q
+
+abbrev wholeIf : Bool → ℕ → Told
+wholeIf true n = told.Whole (record { 0 = n })
+wholeIf false n = told.Not
+
+-- d decimetres in steps of so many: a whole number that 32 bits hold, or not
+abbrev pub wholeSteps : ℕ → ℕ → Told
+wholeSteps step d = wholeIf (eqb (d % step) 0 && ltb (d / step) (2 ^ 32)) (d / step)
+
+abbrev pub inSteps : Scale → ℕ → Told
+inSteps q d = wholeSteps (stepOf q) d
+
+-- 50 steps of 10 m are 5,000 dm, and 500 steps of 1 m; 1,005 dm are no whole number of metres
+examples : inDecimetres Tens 50 ∷ inDecimetres Metres 500 ∷ [] ≡ 5000 ∷ 5000 ∷ []
+examples = refl
+
+back : inSteps Metres 5000 ∷ inSteps Metres 1005 ∷ inSteps Tenths 1005 ∷ []
+    ≡ told.Whole (record { 0 = 500 }) ∷ told.Not ∷ told.Whole (record { 0 = 1005 }) ∷ []
+back = refl

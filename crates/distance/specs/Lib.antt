@@ -1,0 +1,2 @@
+-- What a distance is in steps and in decimetres.
+pub mod Distance

@@ -1,0 +1,111 @@
+// Distances: steps of a scale and decimetres are two quantities. Their numbers are private here, so that one is added to the other
+// nowhere else; they are converted by functions that know the packet's Q_SCALE.
+ghost use mathlib.Core.Path.{_≡_};
+ghost use Prim.Native.Nat.{_<_};
+ghost use Rattle.distance.specs.Distance.{scaledBy, inDecimetres, inSteps, wholeSteps};
+
+// The scale of a packet: steps of 10 cm, of 1 m or of 10 m.
+pub enum Scale {
+    Tenths,
+    Metres,
+    Tens,
+}
+
+// So many steps of a scale.
+pub struct Steps(u32);
+
+// So many decimetres.
+pub struct Decimetres(u64);
+
+// The scale that a Q_SCALE is, if it is one.
+pub enum Scaled {
+    By(Scale),
+    Not,
+}
+
+// What decimetres are in steps of a scale: whole steps, or not a number of steps.
+pub enum Told {
+    Whole(Steps),
+    Not,
+}
+
+impl Scale {
+    // Q_SCALE 0, 1, 2.
+    pub fn of(q: u64) -> Scaled
+        ensures { λ r. ⌜ r ≡ scaledBy q ⌝ }
+    {
+        match q {
+            0 => Scaled::By(Scale::Tenths),
+            1 => Scaled::By(Scale::Metres),
+            2 => Scaled::By(Scale::Tens),
+            _ => Scaled::Not,
+        }
+    }
+}
+
+impl Steps {
+    pub fn new(number: u32) -> Self
+        ensures { λ r. ⌜ r .0 ≡ number ⌝ }
+    {
+        Steps(number)
+    }
+
+    pub fn number(self) -> u32
+        ensures { λ r. ⌜ r ≡ self .0 ⌝ }
+    {
+        self.0
+    }
+
+    // How many decimetres these steps are at a packet's scale.
+    pub fn decimetres(self, q: Scale) -> Decimetres
+        ensures { λ r. ⌜ r .0 ≡ inDecimetres q (self .0) ⌝ }
+    {
+        let n = self.0 as u64;
+        match q {
+            Scale::Tenths => Decimetres(n),
+            Scale::Metres => Decimetres(10 * n),
+            Scale::Tens => Decimetres(100 * n),
+        }
+    }
+}
+
+impl Decimetres {
+    pub fn new(number: u64) -> Self
+        ensures { λ r. ⌜ r .0 ≡ number ⌝ }
+    {
+        Decimetres(number)
+    }
+
+    pub fn number(self) -> u64
+        ensures { λ r. ⌜ r ≡ self .0 ⌝ }
+    {
+        self.0
+    }
+
+    // How many steps of a packet's scale these decimetres are. Not, where that is no whole number or is too large.
+    pub fn steps(self, q: Scale) -> Told
+        ensures { λ r. ⌜ r ≡ inSteps q (self .0) ⌝ }
+    {
+        let d = self.0;
+        match q {
+            Scale::Tenths => whole(d, 1),
+            Scale::Metres => whole(d, 10),
+            Scale::Tens => whole(d, 100),
+        }
+    }
+}
+
+// How many steps of step decimetres d are.
+fn whole(d: u64, step: u64) -> Told
+    requires { ⌜ 0 < step ⌝ }
+    ensures { λ r. ⌜ r ≡ wholeSteps step d ⌝ }
+{
+    let n = d / step;
+    if d % step != 0 {
+        return Told::Not;
+    }
+    if 4294967295 < n {
+        return Told::Not;
+    }
+    Told::Whole(Steps(n as u32))
+}
