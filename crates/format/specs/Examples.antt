@@ -14,7 +14,7 @@ abbrev said : Result → List ℕ
 said (accepted es) = 0 ∷ bitCount es ∷ []
 said (refused r) = numberOf (r .kind) ∷ r .place ∷ []
 
-unfoldable written : List ℕ → Result
+unfoldable pub written : List ℕ → Result
 unfolding write drive begun fromValues step next find etcs ctcs header times _⧺_ broken misdirected noted settled onward closes radioFrom packetPlace sameAsEarlier among
 written vs = write paper vs
 
