@@ -1,4 +1,6 @@
 // The refusals of document 01, the answers that carry them, and the kinds of packets.
+ghost use mathlib.Core.Path.{_≡_};
+ghost use Rattle.format.specs.Refusals.{numberOf};
 
 pub mod packets;
 pub mod table;
@@ -30,4 +32,25 @@ pub struct Refusal {
 pub enum Answer {
     Accepted(usize),
     Refused(Refusal),
+}
+
+// Document 01's number of a refusal.
+pub fn number(kind: Kind) -> u64
+    ensures { λ r. ⌜ r ≡ numberOf kind ⌝ }
+{
+    match kind {
+        Kind::Room => 1,
+        Kind::Size => 2,
+        Kind::Padding => 3,
+        Kind::Header => 4,
+        Kind::Ended => 5,
+        Kind::Unknown => 6,
+        Kind::Value => 7,
+        Kind::Length => 8,
+        Kind::Direction => 9,
+        Kind::Repeated => 10,
+        Kind::Trailing => 11,
+        Kind::Wide => 12,
+        Kind::Full => 13,
+    }
 }

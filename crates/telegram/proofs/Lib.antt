@@ -17,3 +17,4 @@ pub mod Writing
 pub mod Answers
 pub mod Once
 pub mod Cheats
+pub mod WriterCheats

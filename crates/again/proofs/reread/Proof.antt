@@ -1,0 +1,75 @@
+-- `again::reread` meets its contract: the bytes that were written are read as the values that they were written from. Assumes nothing.
+use mathlib.Core.Path.{sym}
+use borrow.Author.Needs.{needs}
+use denote.Ref.{now}
+use lib.Seq.{length-take-le}
+use Rattle.format.specs.Rules.{paper}
+use Rattle.again.proofs.Twice.{write-refused, lent-bytes, rereads}
+use Rattle.again.proofs.reread.Statement.{statement}
+use Rattle.again.proofs.reread.Tie as tie
+
+write-requires : tie.Need-write-requires
+write-requires c κs = search needs
+
+enum-known-a : tie.Need-enum-known-a
+enum-known-a c = search needs
+
+enum-told : tie.Need-enum-told
+enum-told c = search needs
+
+same-length : tie.Need-same-length
+same-length c = search needs
+
+returns : tie.Need-returns
+returns c =
+    let a = c .before .before .before .before .before .before .before .before .before .args in
+    write-refused paper (now (a .values)) (now (a .out)) (now (a .run)) _ (c .before .before .before .before .write .ensures) (c .enum-told .given .1)
+
+bytes-for-requires : tie.Need-bytes-for-requires
+bytes-for-requires c κs = search needs
+
+slice-reshare-prefix-read : tie.Need-slice-reshare-prefix-read
+slice-reshare-prefix-read c =
+    let a = c .before .before .before .before .before .before .before .before .before .before .before .args in
+    rw (c .bytes-for .ensures)
+    (lent-bytes paper (now (a .values)) (now (a .out)) (now (a .run)) _ (c .before .before .before .before .before .before .write .ensures) (c .before .before .a .given .1))
+
+slice-aggregate-read : tie.Need-slice-aggregate-read
+slice-aggregate-read c =
+    let a = c .before .before .before .before .before .before .before .before .before .before .before .before .args in
+    sym (length-take-le _ _
+    (rw (c .before .bytes-for .ensures)
+    (lent-bytes paper (now (a .values)) (now (a .out)) (now (a .run)) _ (c .before .before .before .before .before .before .before .write .ensures) (c .before .before .before .a .given .1))))
+
+read-requires : tie.Need-read-requires
+read-requires c κs = search needs
+
+same-length-2 : tie.Need-same-length-2
+same-length-2 c = search needs
+
+same-length-3 : tie.Need-same-length-3
+same-length-3 c = search needs
+
+returns-2 : tie.Need-returns-2
+returns-2 c =
+    let a = c .before .before .before .before .before .before .before .before .before .before .before .before .before .before .before .before .args in
+    rereads paper (now (a .values)) (now (a .out)) (now (a .run)) _ (c .before .before .before .before .before .before .before .before .before .before .before .write .ensures) (c .before .before .before .before .before .before .before .a .given .1)
+    (c .before .before .before .before .before .bytes-for .ensures)
+    (c .before .before .read .ensures)
+
+pub reread-spec : {M : Type 1} → statement M
+reread-spec =
+    tie.close
+    (tie.spec
+    write-requires
+    enum-known-a
+    enum-told
+    same-length
+    returns
+    bytes-for-requires
+    slice-reshare-prefix-read
+    slice-aggregate-read
+    read-requires
+    same-length-2
+    same-length-3
+    returns-2)

@@ -1,0 +1,2 @@
+-- What reading and writing one after the other promise.
+pub mod Again

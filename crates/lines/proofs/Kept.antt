@@ -1,0 +1,65 @@
+-- What the program keeps of a line is enough for its answer. Assumes nothing.
+use mathlib.Core.Path.{_≡_, refl, sym, ap, ap₂, _∙_}
+use mathlib.Core.Bool.{Bool, true, false, cond}
+use mathlib.Core.List.{List, [], _∷_, _++_}
+use Prim.Native.Nat.{ℕ, zero, suc, _+_, _-_, _≤_, _<_, min}
+use native.Mathlib.Nat.{lt-of-not-le}
+use native.Mathlib.Decide.{decLe}
+use native.Mathlib.Omega.{arith}
+use borrow.Author.Tests.{le-leb, lt-leb}
+use lib.Dec.{leb, eqb}
+use lib.ListN.{length, take, getD}
+use lib.Seq.{take-all, take-append-add, length-take-le}
+use Rattle.bits.specs.Bits.{bytesOf}
+use Rattle.format.specs.Rules.{paper}
+use Rattle.telegram.specs.Reader.{checked, answerOf, atOnce}
+use Rattle.format.specs.declared.Kind.the-variants.{Size}
+use Rattle.packing.specs.Packing.{binary, bitsIn}
+use Rattle.lines.specs.Lines.{answerTo, noTelegram, most, Kept}
+use Rattle.lines.specs.Text.{Appended}
+
+-- ---- keeping a part
+
+take-least : (m r : ℕ) (part : List ℕ) → m ≡ min (length part) r → take m part ≡ take r part
+take-least m r part e = by (decLe (length part) r)
+  where
+    by : Dec (length part ≤ r) → take m part ≡ take r part
+    by (yes h) = take-all m part (omega arith) ∙ sym (take-all r part h)
+    by (no h) = let l = lt-of-not-le h in let same : m ≡ r = omega arith in ap (λ (n : ℕ). take n part) same
+
+pub keeps : (chars m r : ℕ) (before part after : List ℕ) → chars ≤ most → most ≤ length before → m ≡ min (length part) (most - chars)
+    → Appended before chars (take m part) after r → Kept chars before part r after
+keeps chars m r before part after h l e a =
+    let c : length (take chars before) ≡ chars = length-take-le chars before (omega arith) in
+    let n : length (take m part) ≡ m = length-take-le m part (omega arith) in
+    let all : length (take chars before) + (most - chars) ≡ most = omega arith in
+    record {
+      few = omega (arith, a .past);
+      text = a .text ∙ ap (λ (p : List ℕ). take chars before ++ p) (take-least m (most - chars) part e)
+          ∙ sym (take-append-add (take chars before) part (most - chars)) ∙ ap (λ (n : ℕ). take n (take chars before ++ part)) all;
+    }
+
+-- ---- the answer to what is kept
+
+-- a line of more than 830 characters is refused by its length, whatever they are
+long-unchecked : (s : List ℕ) (n : ℕ) → 830 < n → answerOf (checked paper s n) ≡ noTelegram
+unfolding checked
+long-unchecked s n h = let g : 58 ≤ n = omega arith in simp (le-leb 58 n g, lt-leb n 830 h)
+
+pub long-refused : (line : List ℕ) → 830 < length line → answerTo line ≡ noTelegram
+unfolding answerTo
+long-refused line h = by (binary line) (long-unchecked (bytesOf (bitsIn line)) (length line) h)
+  where
+    by : (b : Bool) → answerOf (checked paper (bytesOf (bitsIn line)) (length line)) ≡ noTelegram
+        → cond b (answerOf (checked paper (bytesOf (bitsIn line)) (length line))) noTelegram ≡ noTelegram
+    by true e = e
+    by false e = refl
+
+pub kept-enough : (line : List ℕ) → answerTo (take most line) ≡ answerTo line
+kept-enough line = by (decLe (length line) most)
+  where
+    by : Dec (length line ≤ most) → answerTo (take most line) ≡ answerTo line
+    by (yes h) = ap answerTo (take-all most line h)
+    by (no h) =
+        let l = lt-of-not-le h in
+        long-refused (take most line) (rw (length-take-le most line (omega arith)) (omega arith)) ∙ sym (long-refused line (omega arith))
