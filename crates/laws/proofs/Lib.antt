@@ -9,3 +9,7 @@ pub mod Steps
 pub mod Tile
 pub mod Prefix
 pub mod Order
+pub mod Views
+pub mod Exchange
+pub mod Told
+pub mod OneScale
