@@ -13,3 +13,5 @@ pub mod Views
 pub mod Exchange
 pub mod Told
 pub mod OneScale
+pub mod Kept
+pub mod Same

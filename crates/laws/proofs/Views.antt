@@ -5,8 +5,10 @@ use mathlib.Core.List.{List, [], _∷_}
 use mathlib.Core.Path.{_≡_, refl, ap}
 use Prim.Native.Nat.{ℕ, _+_}
 use Prim.Native.String.{String}
+use Rattle.format.specs.Fields.{Field, Sense}
+use Rattle.format.specs.Fields.Sense.{plain, scale, distance, textLength}
 use Rattle.format.specs.Telegrams.{Entry, names, places, bitCount}
-use Rattle.format.specs.Normal.{view, decimetres, steps, saysUnder, metres, metric, best, put, normalUnder}
+use Rattle.format.specs.Normal.{viewOf, view, decimetres, steps, saysUnder, metres, metric, best, put, normalUnder}
 use Rattle.format.specs.Normal.Said.{sent, apart, long}
 use Rattle.format.specs.Normal.View.{kept, scales, measures}
 
@@ -56,6 +58,18 @@ module _ (e : Entry) (es : List Entry) where
       → normalUnder q r (e ∷ es) ≡ put e (steps r (decimetres q (e .value))) ∷ normalUnder q r es
   unfolding normalUnder
   normal-measures q r h = rw h
+
+-- ---- the entries after
+
+-- what comes after an entry does not count for it
+pub view-alone : (k : Sense) (v : ℕ) (es fs : List Entry) → viewOf k v es ≡ viewOf k v fs
+view-alone (plain r) v es fs = refl
+view-alone scale v es fs = refl
+view-alone distance v es fs = refl
+view-alone textLength v es fs = refl
+
+pub metres-alone : (f : Field) (d : ℕ) (es fs : List Entry) → metres f d es ≡ metres f d fs
+metres-alone f d es fs = rw (view-alone (f .sense) (steps 1 d) es fs)
 
 -- ---- after the last entry
 
