@@ -129,6 +129,12 @@ module _ (p : Terms) (s : State) (v u : ℕ) where
       let f : Free (named (s .todo) v .sense) = rw k tt in
       free-alike f (rw (due-sense f, k) (broken-scale hu hv))
 
+pub scale-named : (s : State) (u v : ℕ) (es fs : List Entry) → view (entry s v) es ≡ scales → view (entry s u) fs ≡ scales
+scale-named s u v es fs h =
+    let k = scales-is (named (s .todo) v .sense) v es h in
+    let f : Free (named (s .todo) v .sense) = rw k tt in
+    rw (named-free (s .todo) u v f .0) (scale-still (named (s .todo) v .sense) u v es fs h)
+
 -- ---- a scale that breaks no rule is 0, 1 or 2
 
 abbrev pub Passes : Next → Type 0

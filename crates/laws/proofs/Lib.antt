@@ -15,3 +15,6 @@ pub mod Told
 pub mod OneScale
 pub mod Kept
 pub mod Same
+pub mod LeftOut
+pub mod Demand3
+pub mod Metres
