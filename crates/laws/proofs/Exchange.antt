@@ -82,6 +82,11 @@ measures-is scale v es h = let z : _≡_ {A = ℕ} 0 1 = cc in absurd (omega ari
 measures-is distance v es h = always
 measures-is textLength v es h = mostly
 
+-- for a distance, nothing counts that comes after it
+pub distance-alone : {k : Sense} → Metric k → (v : ℕ) (es fs : List Entry) → viewOf k v es ≡ viewOf k v fs
+distance-alone always v es fs = refl
+distance-alone mostly v es fs = refl
+
 metric-free : {k : Sense} → Metric k → Free k
 metric-free always = tt
 metric-free mostly = tt

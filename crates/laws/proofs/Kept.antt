@@ -11,7 +11,7 @@ use Rattle.format.specs.Telegrams.Run.{last, more}
 use Rattle.format.specs.Normal.{View, view, choose, decimetres, steps, saysUnder, metric, best, put, normalUnder}
 use Rattle.format.specs.Normal.View.{kept, scales, measures}
 use Rattle.laws.proofs.Sources.{width-positive, width-named}
-use Rattle.laws.proofs.Views.{view-alone, says-kept, says-scales, says-measures, normal-kept, normal-scales, normal-measures}
+use Rattle.laws.proofs.Views.{view-normal, says-kept, says-scales, says-measures, normal-kept, normal-scales, normal-measures}
 use Rattle.laws.proofs.Exchange.{Alike, put-entry, distance-alike, scale-alike, scale-still}
 use Rattle.laws.proofs.Told.{Fair, AllFair, fair, Told, told-steps, Tells, chooseT, tells-best}
 
@@ -20,7 +20,7 @@ use Rattle.laws.proofs.Told.{Fair, AllFair, fair, Told, told-steps, Tel
 module _ (q r : ℕ) (e : Entry) (es : List Entry) (f : AllFair es)
     (ih : (q2 r2 : ℕ) → Tells q2 r2 es → saysUnder r2 (normalUnder q2 r2 es) ≡ saysUnder q2 es) where
   still : {k : View} (u : ℕ) → view (put e u) es ≡ k → view (put e u) (normalUnder q r es) ≡ k
-  still u h = view-alone (e .field .sense) u (normalUnder q r es) es ∙ h
+  still u h = view-normal q r (put e u) es ∙ h
 
   says-normal-at : (k : View) → view e es ≡ k → chooseT k (Tells q r es) Unit (Told q r e es × Tells q r es)
       → saysUnder r (normalUnder q r (e ∷ es)) ≡ saysUnder q (e ∷ es)

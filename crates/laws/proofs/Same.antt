@@ -11,7 +11,8 @@ use Rattle.format.specs.Telegrams.{Entry}
 use Rattle.format.specs.Normal.{View, view, choose, decimetres, steps, Said, saysUnder, metres, metric, best, put, normalUnder}
 use Rattle.format.specs.Normal.Said.{sent, apart, long}
 use Rattle.format.specs.Normal.View.{kept, scales, measures}
-use Rattle.laws.proofs.Views.{view-alone, metres-alone, metric-none, metric-kept, metric-scales, metric-measures, normal-none, normal-kept, normal-scales, normal-measures}
+use Rattle.laws.proofs.Views.{metric-none, metric-kept, metric-scales, metric-measures, normal-none, normal-kept, normal-scales, normal-measures}
+use Rattle.laws.proofs.Exchange.{Metric, measures-is, distance-alone}
 use Rattle.laws.proofs.Told.{Fair, AllFair, Told, Tells, chooseT}
 use Rattle.laws.proofs.OneScale.{one-scale}
 
@@ -59,13 +60,16 @@ same q r (d ∷ a) (e ∷ b) h = same-at q r d e a b (λ q2 r2. same q2 r2 a b) 
 
 -- ---- the scale of the normal form
 
+metres-alone : (f : Field) (d : ℕ) (es fs : List Entry) → Metric (f .sense) → metres f d es ≡ metres f d fs
+metres-alone f d es fs m = rw (distance-alone m (steps 1 d) es fs)
+
 same-metric : {q r : ℕ} {a b : List Entry} → Same q r a b → metric q a ≡ metric r b
 same-metric (none {q = q} {r = r}) = metric-none q ∙ sym (metric-none r)
 same-metric (stays {q = q} {r = r} {a = a} {b = b} e ha hb l) = metric-kept e a q ha ∙ same-metric l ∙ sym (metric-kept e b r hb)
 same-metric (scaled {q = q} {r = r} {a = a} {b = b} d e hd he f l) = metric-scales d a q hd ∙ sym (metric-scales e b r he)
 same-metric (measured {q = q} {r = r} {a = a} {b = b} d e hd he f m l) =
     metric-measures d a q hd
-    ∙ ap₂ _&&_ (metres-alone (d .field) (decimetres q (d .value)) a b ∙ ap₂ (λ (g : Field) (x : ℕ). metres g x b) f m) (same-metric l)
+    ∙ ap₂ _&&_ (metres-alone (d .field) (decimetres q (d .value)) a b (measures-is (d .field .sense) (d .value) a hd) ∙ ap₂ (λ (g : Field) (x : ℕ). metres g x b) f m) (same-metric l)
     ∙ sym (metric-measures e b r he)
 
 -- the counts of the one are what the other scale tells
@@ -75,7 +79,7 @@ same-tells (stays {q = q} {r = r} {a = a} e ha hb l) f = rw ha (same-tells l (f 
 same-tells (scaled {q = q} {r = r} {a = a} d e hd he g l) f = rw hd tt
 same-tells (measured {q = q} {r = r} {a = a} {b = b} d e hd he g m l) f =
     rw hd
-    (record { count = e .value; small = rw g (f .0 .small); finite = view-alone (d .field .sense) (e .value) a b ∙ rw g he; exact = sym m }, same-tells l (f .1))
+    (record { count = e .value; small = rw g (f .0 .small); finite = distance-alone (measures-is (d .field .sense) (d .value) a hd) (e .value) a b ∙ rw g he; exact = sym m }, same-tells l (f .1))
 
 best-same : (q r : ℕ) (a b : List Entry) → q ≤ 2 → r ≤ 2 → AllFair a → AllFair b → Same q r a b → best q a ≡ best r b
 best-same q r a b hq hr fa fb l = by-test (metric q a) (metric r b) refl (same-metric l)

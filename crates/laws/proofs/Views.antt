@@ -1,11 +1,12 @@
 -- One turn of what is said, of the decision for metres and of the normal form, for each view of the entry in front; and what the
 -- normal form leaves as it is. Assumes nothing.
 use mathlib.Core.Bool.{true, _&&_}
-use mathlib.Core.List.{List, [], _∷_}
+use mathlib.Core.List.{List, [], _∷_, _++_}
 use mathlib.Core.Path.{_≡_, refl, ap}
-use Prim.Native.Nat.{ℕ, _+_}
+use Prim.Native.Nat.{ℕ, suc, _+_}
 use Prim.Native.String.{String}
-use Rattle.format.specs.Fields.{Field, Sense}
+use lib.ListN.{length}
+use Rattle.format.specs.Fields.{Sense}
 use Rattle.format.specs.Fields.Sense.{plain, scale, distance, textLength}
 use Rattle.format.specs.Telegrams.{Entry, names, places, bitCount}
 use Rattle.format.specs.Normal.{viewOf, view, decimetres, steps, saysUnder, metres, metric, best, put, normalUnder}
@@ -59,17 +60,16 @@ module _ (e : Entry) (es : List Entry) where
   unfolding normalUnder
   normal-measures q r h = rw h
 
--- ---- the entries after
+-- ---- an entry counts in the normal form as it did
 
--- what comes after an entry does not count for it
-pub view-alone : (k : Sense) (v : ℕ) (es fs : List Entry) → viewOf k v es ≡ viewOf k v fs
-view-alone (plain r) v es fs = refl
-view-alone scale v es fs = refl
-view-alone distance v es fs = refl
-view-alone textLength v es fs = refl
+sense-normal : (k : Sense) (v q r : ℕ) (es : List Entry) → viewOf k v (normalUnder q r es) ≡ viewOf k v es
+sense-normal (plain c) v q r es = refl
+sense-normal scale v q r es = refl
+sense-normal distance v q r es = refl
+sense-normal textLength v q r es = refl
 
-pub metres-alone : (f : Field) (d : ℕ) (es fs : List Entry) → metres f d es ≡ metres f d fs
-metres-alone f d es fs = rw (view-alone (f .sense) (steps 1 d) es fs)
+pub view-normal : (q r : ℕ) (e : Entry) (es : List Entry) → view e (normalUnder q r es) ≡ view e es
+view-normal q r e es = sense-normal (e .field .sense) (e .value) q r es
 
 -- ---- after the last entry
 
@@ -97,3 +97,20 @@ pub bitCount-normal : (q r : ℕ) (es : List Entry) → bitCount (normalUnder q 
 unfolding normalUnder
 bitCount-normal q r [] = refl
 bitCount-normal q r (e ∷ es) = ap (λ (n : ℕ). e .field .width + n) (bitCount-normal _ _ es)
+
+-- ---- "each scaled packet uses Q_SCALE 1 if ..; otherwise it keeps its scale"
+
+-- the normal form with a scale e in it: as many entries before it, then e with the scale that is best for what comes after
+pub record Scaled (ds : List Entry) (e : Entry) (es fs : List Entry) : Type 0 where
+  pub front : List Entry
+  pub as-many : length front ≡ length ds
+  pub is : fs ≡ front ++ put e (best (e .value) es) ∷ normalUnder (e .value) (best (e .value) es) es
+
+further : {ds es fs : List Entry} {e : Entry} (c d : Entry) → Scaled ds e es fs → Scaled (c ∷ ds) e es (d ∷ fs)
+further c d t = record { front = d ∷ t .front; as-many = ap suc (t .as-many); is = ap (λ (l : List Entry). d ∷ l) (t .is) }
+
+pub normal-scaled : (q r : ℕ) (ds : List Entry) (e : Entry) (es : List Entry) → view e es ≡ scales
+    → Scaled ds e es (normalUnder q r (ds ++ e ∷ es))
+unfolding normalUnder
+normal-scaled q r [] e es h = record { front = []; as-many = refl; is = normal-scales e es q r h }
+normal-scaled q r (d ∷ ds) e es h = further d _ (normal-scaled _ _ ds e es h)
