@@ -1,11 +1,12 @@
 -- Worked normal forms, computed by the checker. Assumes nothing.
-use mathlib.Core.List.{List, [], _∷_, _++_}
+use mathlib.Core.List.{List, [], _∷_, _++_, map}
 use mathlib.Core.Path.{_≡_, refl}
 use Prim.Native.Nat.{ℕ}
 use Rattle.format.specs.Refusals.{numberOf}
 use Rattle.format.specs.Telegrams.{Result, values, valuesIn}
 use Rattle.format.specs.Telegrams.Result.{accepted, refused}
-use Rattle.format.specs.Normal.{normal, normalUnder}
+use Rattle.format.specs.Normal.{Said, says, saysUnder, normal, normalUnder}
+use Rattle.format.specs.Normal.Said.{sent, apart, long}
 use Rattle.format.specs.Examples.{written}
 
 abbrev head : List ℕ
@@ -58,12 +59,43 @@ unlimited : (normalOf (texts 2 5 32767) ≡ is (texts 1 50 32767)) × (normalOf 
 unfolding normalOf
 unlimited = (refl, refl, refl)
 
--- each packet decides for itself: the first becomes metres whatever the second holds, and the second keeps its scale
-each-by-itself : normalOf (reversing 2 50 400 ++ positions 0 5 1005) ≡ is (reversing 1 500 4000 ++ positions 0 5 1005)
+-- each packet decides for itself: at 10 m the second packet's 4005 would not fit its field, and 1005 decimetres are no whole metres
+each-by-itself : (normalOf (reversing 2 50 400 ++ positions 0 4005 1005) ≡ is (reversing 1 500 4000 ++ positions 0 4005 1005))
+    × (normalOf (positions 0 4005 1005 ++ reversing 2 50 400) ≡ is (positions 0 4005 1005 ++ reversing 1 500 4000))
 unfolding normalOf
-each-by-itself = refl
+each-by-itself = (refl, refl)
 
 -- ETCS-5: "Q_LOCACC is in metres whatever the scale"
 locacc-stays : normalOf (5 ∷ 1 ∷ 69 ∷ 2 ∷ 7 ∷ 0 ∷ 8 ∷ 0 ∷ 0 ∷ 12 ∷ 0 ∷ []) ≡ is (5 ∷ 1 ∷ 69 ∷ 1 ∷ 70 ∷ 0 ∷ 8 ∷ 0 ∷ 0 ∷ 12 ∷ 0 ∷ [])
 unfolding normalOf
 locacc-stays = refl
+
+-- ---- what telegrams say
+
+abbrev saidIn : Result → List Said
+unfolding saysUnder
+saidIn (accepted es) = says es
+saidIn (refused r) = []
+
+-- what the telegram with these packets says
+unfoldable saidBy : List ℕ → List Said
+unfolding written saysUnder
+saidBy vs = saidIn (written (is vs))
+
+-- "50 at 10 m and 500 at 1 m say the same"; an unlimited text does at every scale
+say-the-same : (saidBy (reversing 2 50 400) ≡ saidBy (reversing 1 500 4000)) × (saidBy (texts 2 5 32767) ≡ saidBy (texts 1 50 32767))
+unfolding saidBy
+say-the-same = (refl, refl)
+
+-- the distances among what is said, in decimetres
+unfoldable lengths : List Said → List ℕ
+lengths [] = []
+lengths (sent f v ∷ xs) = lengths xs
+lengths (apart f ∷ xs) = lengths xs
+lengths (long f d ∷ xs) = d ∷ lengths xs
+
+-- 50 at 10 m is not 50 at 1 m; "an unlimited text length equal only to an unlimited one": it is no distance at all
+say-something-else : map (λ vs. lengths (saidBy vs)) (reversing 2 50 400 ∷ reversing 1 50 4000 ∷ texts 1 50 32766 ∷ texts 1 50 32767 ∷ [])
+    ≡ (5000 ∷ 40000 ∷ []) ∷ (500 ∷ 40000 ∷ []) ∷ (500 ∷ 327660 ∷ []) ∷ (500 ∷ []) ∷ []
+unfolding saidBy lengths
+say-something-else = refl

@@ -10,3 +10,12 @@ pub mod Tile
 pub mod Prefix
 pub mod Order
 pub mod Agree
+pub mod Views
+pub mod Exchange
+pub mod Told
+pub mod OneScale
+pub mod Kept
+pub mod Same
+pub mod LeftOut
+pub mod Demand3
+pub mod Metres
