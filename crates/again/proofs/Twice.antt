@@ -3,7 +3,7 @@
 use mathlib.Core.Bool.{Bool, true, false, cond}
 use mathlib.Core.List.{List, [], _∷_, _++_}
 use mathlib.Core.Path.{_≡_, refl, sym, ap, _∙_}
-use Prim.Native.Nat.{ℕ, zero, suc, _+_, _-_, _*_, _≤_, _<_}
+use Prim.Native.Nat.{ℕ, zero, suc, _-_, _*_, _≤_}
 use native.Mathlib.Omega.{arith}
 use lib.Dec.{leb}
 use lib.ListN.{length, take, drop, replicate, length-take, length-drop, length-append, take-append-drop}
@@ -59,7 +59,7 @@ module _ (p : Terms) (es : List Entry) (t : Telegram p es) (n : ℕ) (e : n ≡ 
   long : length (bits es) ≡ n
   long = length-bits es ∙ sym e
 
-  pub most : n ≤ 830
+  most : n ≤ 830
   most = let r = room p t in let l = long in omega arith
 
   bytes-long : length (bytesOf (bits es)) ≡ bytesFor n

@@ -1,22 +1,20 @@
 -- What the program keeps of a line is enough for its answer. Assumes nothing.
-use mathlib.Core.Path.{_≡_, refl, sym, ap, ap₂, _∙_}
+use mathlib.Core.Path.{_≡_, refl, sym, ap, _∙_}
 use mathlib.Core.Bool.{Bool, true, false, cond}
-use mathlib.Core.List.{List, [], _∷_, _++_}
-use Prim.Native.Nat.{ℕ, zero, suc, _+_, _-_, _≤_, _<_, min}
+use mathlib.Core.List.{List, _++_}
+use Prim.Native.Nat.{ℕ, _+_, _-_, _≤_, _<_, min}
 use native.Mathlib.Nat.{lt-of-not-le}
 use native.Mathlib.Decide.{decLe}
 use native.Mathlib.Omega.{arith}
 use borrow.Author.Tests.{le-leb, lt-leb}
-use lib.Dec.{leb, eqb}
-use lib.ListN.{length, take, getD}
+use lib.ListN.{length, take}
 use lib.Seq.{take-all, take-append-add, length-take-le}
 use Rattle.bits.specs.Bits.{bytesOf}
 use Rattle.format.specs.Rules.{paper}
-use Rattle.telegram.specs.Reader.{checked, answerOf, atOnce}
-use Rattle.format.specs.declared.Kind.the-variants.{Size}
+use Rattle.telegram.specs.Reader.{checked, answerOf}
 use Rattle.packing.specs.Packing.{binary, bitsIn}
 use Rattle.lines.specs.Lines.{answerTo, noTelegram, most, Kept}
-use Rattle.lines.specs.Text.{Appended}
+use Rattle.lines.specs.Text.{textOf, responseTo, Appended}
 
 -- ---- keeping a part
 
@@ -63,3 +61,18 @@ kept-enough line = by (decLe (length line) most)
     by (no h) =
         let l = lt-of-not-le h in
         long-refused (take most line) (rw (length-take-le most line (omega arith)) (omega arith)) ∙ sym (long-refused line (omega arith))
+
+-- what is printed for a line that is too long says nothing of how long it is
+long-response : (line : List ℕ) → 830 < length line → responseTo line ≡ textOf 0 noTelegram
+unfolding textOf
+long-response line h = ap (textOf (length line)) (long-refused line h)
+
+-- so the program may print for what it keeps
+pub kept-responds : (line : List ℕ) → responseTo (take most line) ≡ responseTo line
+kept-responds line = by (decLe (length line) most)
+  where
+    by : Dec (length line ≤ most) → responseTo (take most line) ≡ responseTo line
+    by (yes h) = ap responseTo (take-all most line h)
+    by (no h) =
+        let l = lt-of-not-le h in
+        long-response (take most line) (rw (length-take-le most line (omega arith)) (omega arith)) ∙ sym (long-response line (omega arith))

@@ -2,7 +2,7 @@
 use mathlib.Core.Path.{_≡_, refl, sym, ap, _∙_, subst}
 use mathlib.Core.Bool.{Bool, true, false, cond}
 use mathlib.Core.List.{List, [], _∷_, _++_, append-assoc, append-nil}
-use Prim.Native.Nat.{ℕ, zero, suc, _+_, _-_, _*_, _/_, _%_, _^_, _≤_, _<_}
+use Prim.Native.Nat.{ℕ, zero, suc, _+_, _-_, _/_, _%_, _^_, _≤_, _<_}
 use native.Mathlib.Nat.{add-zero, div-lt-iff-lt-mul, le-div-iff-mul-le, pow-suc, pow-le-pow-right, lt-of-not-le}
 use native.Mathlib.Decide.{decLe}
 use native.Mathlib.Numerals.{add-one}
@@ -11,11 +11,11 @@ use borrow.Author.Tests.{lt-ltb, le-ltb}
 use lib.Dec.{ltb}
 use lib.ListN.{length, take, getD, set, length-append}
 use lib.Seq.{take-suc, take-suc-set, take-length}
-use Rattle.io.specs.Digits.{digits, glyph, Fewest}
+use Rattle.io.specs.Digits.{digits, Fewest}
 use Rattle.format.specs.Refusals.{numberOf}
 use Rattle.format.specs.declared.Answer.{Answer}
 use Rattle.format.specs.declared.Answer.the-variants.{Accepted, Refused}
-use Rattle.lines.specs.Text.{digitsOf, decimal, two, textOf, Appended}
+use Rattle.lines.specs.Text.{digitsOf, two, textOf, Appended}
 
 -- ---- pieces
 

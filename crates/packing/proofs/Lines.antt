@@ -1,20 +1,20 @@
 -- The laws of lines of characters, and what the code's loops stand on. Assumes nothing.
 use mathlib.Core.Path.{_≡_, refl, sym, ap, ap₂, _∙_, subst}
 use mathlib.Core.Bool.{Bool, true, false, cond, _&&_}
-use mathlib.Core.List.{List, [], _∷_, _++_, map}
-use Prim.Native.Nat.{ℕ, zero, suc, _+_, _-_, _*_, _^_, _≤_, _<_}
+use mathlib.Core.List.{List, [], _∷_, _++_}
+use Prim.Native.Nat.{ℕ, zero, suc, _+_, _*_, _^_, _≤_, _<_}
 use native.Mathlib.Nat.{add-zero, le-trans}
 use native.Mathlib.Numerals.{add-one}
 use native.Mathlib.Omega.{arith}
-use borrow.Author.Tests.{le-leb, lt-leb, eq-eqb, ne-eqb}
-use lib.Dec.{eqb, leb}
+use borrow.Author.Tests.{le-leb, lt-leb}
+use lib.Dec.{eqb}
 use lib.ListN.{length, drop, getD, set, length-map, List·getD-map, List·getD-eq-default}
 use lib.Seq.{drop-cons, drop-drop, getD-drop, set-at, append-snoc}
 use lib.Pow.{pow-mono}
 use Rattle.bits.specs.Bits.{valueOf, filled, packed, bytesOf, bytesFor, Below}
 use Rattle.bits.proofs.Digits.{valueOf-append, valueOf-lt}
 use Rattle.bits.proofs.Bytes.{length-filled, below-filled, filled-add, length-packed, below-drop}
-use Rattle.packing.specs.Packing.{isBit, binary, bitOf, bitsIn, roomy, bytesOver, packedOf, packInto, Pack}
+use Rattle.packing.specs.Packing.{isBit, binary, bitOf, bitsIn, bytesOver, packedOf, packInto, Pack}
 use Rattle.packing.specs.declared.Packed.the-variants.{Bits, Other, Room}
 
 -- ---- the characters of a line
@@ -52,17 +52,11 @@ below-bitsIn (c ∷ line) = (small (eqb c 49), below-bitsIn line)
     small false = omega arith
 
 module _ (line : List ℕ) (at j : ℕ) where
-  bit-is : getD (drop at (bitsIn line)) j 0 ≡ bitOf (getD line (at + j) 0)
+  pub bit-is : getD (drop at (bitsIn line)) j 0 ≡ bitOf (getD line (at + j) 0)
   bit-is = getD-drop at (bitsIn line) j 0 ∙ List·getD-map bitOf line (at + j) 0
 
   pub bit-none : length line ≤ at + j → getD (drop at (bitsIn line)) j 0 ≡ 0
   bit-none h = bit-is ∙ ap bitOf (List·getD-eq-default line 0 h)
-
-  pub bit-one : getD line (at + j) 0 ≡ 49 → getD (drop at (bitsIn line)) j 0 ≡ 1
-  bit-one e = bit-is ∙ simp (eq-eqb (getD line (at + j) 0) 49 e)
-
-  pub bit-zero : (getD line (at + j) 0 ≡ 49 → ⊥) → getD (drop at (bitsIn line)) j 0 ≡ 0
-  bit-zero e = bit-is ∙ simp (ne-eqb (getD line (at + j) 0) 49 e)
 
 -- ---- a byte of them
 

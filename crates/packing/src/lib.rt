@@ -1,9 +1,9 @@
 // Lines of the characters 0 and 1, packed into the bytes of the bit string that they write.
 ghost use mathlib.Core.Path.{_≡_};
-ghost use Prim.Native.Nat.{_*_, _≤_};
+ghost use Prim.Native.Nat.{_+_, _*_, _≤_};
 ghost use lib.ListN.{length, drop, getD};
 ghost use Rattle.bits.specs.Bits.{valueOf, filled, bytesFor};
-ghost use Rattle.packing.specs.Packing.{binary, bitsIn, bytesOver, Pack};
+ghost use Rattle.packing.specs.Packing.{binary, bitOf, bitsIn, bytesOver, Pack};
 
 // What packing a line finds: the count of its bits, that it has another character, or that what is lent is too short.
 pub enum Packed {
@@ -63,6 +63,32 @@ fn byte_at(line: &[u8], at: usize) -> u8
     requires { ⌜ at ≤ length (now line) ⌝ }
     ensures { λ r. ⌜ r ≡ valueOf (filled 8 (drop at (bitsIn (now (line .entry))))) ⌝ }
 {
+    if line.len() - at < 8 {
+        return last_at(line, at);
+    }
+    whole_at(line, at)
+}
+
+// The same where there are eight: no character asks where the line ends, which the compiler makes straight code of.
+fn whole_at(line: &[u8], at: usize) -> u8
+    requires { ⌜ at + 8 ≤ length (now line) ⌝ }
+    ensures { λ r. ⌜ r ≡ valueOf (filled 8 (drop at (bitsIn (now (line .entry))))) ⌝ }
+{
+    let mut v: u64 = 0;
+    let mut j = 0;
+    while j < 8 {
+        let bit = bit_of(line[at + j]);
+        v = 2 * v + bit;
+        j += 1;
+    }
+    v as u8
+}
+
+// The same at the end of a line.
+fn last_at(line: &[u8], at: usize) -> u8
+    requires { ⌜ at ≤ length (now line) ⌝ }
+    ensures { λ r. ⌜ r ≡ valueOf (filled 8 (drop at (bitsIn (now (line .entry))))) ⌝ }
+{
     let mut v: u64 = 0;
     let mut j = 0;
     while j < 8 {
@@ -81,5 +107,12 @@ fn bit_at(line: &[u8], at: usize, j: usize) -> u64
     if line.len() - at <= j {
         return 0;
     }
-    if line[at + j] == b'1' { 1 } else { 0 }
+    bit_of(line[at + j])
+}
+
+// The bit that a character writes.
+fn bit_of(c: u8) -> u64
+    ensures { λ r. ⌜ r ≡ bitOf c ⌝ }
+{
+    if c == b'1' { 1 } else { 0 }
 }

@@ -1,5 +1,5 @@
 -- `lines::close` is safe, and leaves what it is lent in order: either way there is room for one more answer. Assumes nothing.
-use mathlib.Core.Path.{_≡_, sym, ap}
+use mathlib.Core.Path.{sym, ap}
 use mathlib.Core.Logic.{⊎-elim}
 use Prim.Native.Nat.{_≤_, _+_}
 use denote.Ref.{now}

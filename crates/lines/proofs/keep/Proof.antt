@@ -1,5 +1,5 @@
 -- `lines::keep` meets its contract: what is put behind is as much of the part as there is room for. Assumes nothing.
-use mathlib.Core.Path.{_≡_, refl, sym}
+use mathlib.Core.Path.{refl, sym}
 use denote.Ref.{now}
 use native.Mathlib.Omega.{arith}
 use lib.Seq.{length-take-le}

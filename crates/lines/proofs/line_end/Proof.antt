@@ -1,6 +1,5 @@
 -- `lines::line_end` meets its contract. The loop's invariant: no newline lies from a to e. The measure is what is left of the block.
 -- Assumes nothing.
-use Rattle.lines.specs.Lines.{EndsAt}
 use mathlib.Core.Path.{_≡_}
 use Prim.Native.Nat.{ℕ, _≤_, _<_, _-_}
 use native.Mathlib.Omega.{arith}

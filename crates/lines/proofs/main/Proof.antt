@@ -1,6 +1,6 @@
 -- `lines::main` is safe and ends. The loop's invariant: what is lent has its length, and what is kept lies within it. The measure is the
 -- number of turns that are left. Assumes nothing.
-use mathlib.Core.Path.{_≡_, refl, sym, ap}
+use mathlib.Core.Path.{_≡_, refl}
 use Prim.Native.Nat.{ℕ, _<_, _-_}
 use native.Mathlib.Omega.{arith}
 use borrow.Author.Needs.{needs}

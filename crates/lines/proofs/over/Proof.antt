@@ -1,6 +1,6 @@
 -- `lines::over` is safe, and leaves what it is lent in order. The loop's invariant says just that. The measure is what is left of the block.
 -- Assumes nothing.
-use mathlib.Core.Path.{_≡_, refl, sym, ap}
+use mathlib.Core.Path.{_≡_, refl}
 use Prim.Native.Nat.{_≤_, _-_}
 use native.Mathlib.Omega.{arith}
 use lib.ListN.{length}

@@ -1,12 +1,12 @@
 -- `packing::fill` meets its contract. The loop's invariant: the first i bytes of the line stand in front, and behind them what was
 -- there. The measure is how many bytes are left. Assumes nothing.
-use mathlib.Core.Path.{_≡_, refl, sym, ap, _∙_}
-use mathlib.Core.List.{List, _++_}
-use Prim.Native.Nat.{ℕ, _≤_, _-_, _+_}
+use mathlib.Core.Path.{_≡_, refl, ap, _∙_}
+use mathlib.Core.List.{_++_}
+use Prim.Native.Nat.{ℕ, _≤_, _-_}
 use native.Mathlib.Omega.{arith}
 use denote.Ref.{now}
 use lib.ListN.{length, drop, length-set}
-use Rattle.bits.specs.Bits.{packed, filled, valueOf}
+use Rattle.bits.specs.Bits.{packed}
 use Rattle.packing.specs.Packing.{bitsIn}
 use Rattle.packing.proofs.Lines.{store-again, stored-all}
 use Rattle.packing.proofs.fill.Statement.{statement}

@@ -1,6 +1,5 @@
 -- `lines::line::answer` meets its contract: one law for each answer of packing. Assumes nothing.
-use mathlib.Core.Path.{_≡_, refl, sym, _∙_}
-use native.Mathlib.Omega.{arith}
+use mathlib.Core.Path.{refl, sym, _∙_}
 use denote.Ref.{now}
 use lib.Seq.{length-take-le}
 use Rattle.lines.proofs.Answers.{answer-bits, prefix-fits, answer-other, answer-roomless}

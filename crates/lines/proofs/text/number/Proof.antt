@@ -1,6 +1,5 @@
 -- `lines::text::number` meets its contract: the fewest digits that hold a number are its digits. Assumes nothing.
-use mathlib.Core.Path.{_≡_, sym, _∙_}
-use denote.Ref.{now}
+use mathlib.Core.Path.{_∙_}
 use native.Mathlib.Omega.{arith}
 use Rattle.lines.proofs.Pieces.{few-digits, fewest, same-piece}
 use borrow.Author.Needs.{needs}

@@ -1,6 +1,6 @@
--- `packing::byte_at` meets its contract. The loop's invariant: v is the number of the j bits that were read. The measure is how
+-- `packing::last_at` meets its contract. The loop's invariant: v is the number of the j bits that were read. The measure is how
 -- many of the eight are left. Assumes nothing.
-use mathlib.Core.Path.{_≡_, refl, sym, ap, _∙_}
+use mathlib.Core.Path.{_≡_, refl, ap, _∙_}
 use Prim.Native.Nat.{ℕ, _≤_, _-_, _+_, _*_}
 use native.Mathlib.Omega.{arith}
 use borrow.Author.Needs.{needs}
@@ -9,8 +9,8 @@ use lib.ListN.{drop}
 use Rattle.bits.specs.Bits.{valueOf, filled}
 use Rattle.packing.specs.Packing.{bitsIn}
 use Rattle.packing.proofs.Lines.{value-again, value-small}
-use Rattle.packing.proofs.byte_at.Statement.{statement}
-use Rattle.packing.proofs.byte_at.Tie as tie
+use Rattle.packing.proofs.last_at.Statement.{statement}
+use Rattle.packing.proofs.last_at.Tie as tie
 
 abbrev Inv-loop : tie.InvT-loop
 Inv-loop line at v₀ j₀ v j = (j ≤ 8) × (v ≡ valueOf (filled j (drop at (bitsIn line))))
@@ -63,8 +63,8 @@ returns c =
     let e : c .before .loop .j ≡ 8 = omega arith in
     c .before .loop .inv .1 ∙ ap (λ (n : ℕ). valueOf (filled n (drop (a .at) (bitsIn (now (a .line)))))) e
 
-pub byte-at-spec : {M : Type 1} → statement M
-byte-at-spec =
+pub last-at-spec : {M : Type 1} → statement M
+last-at-spec =
     tie.close
     (tie.spec
     Inv-loop
