@@ -20,13 +20,14 @@ use Rattle.format.specs.Table.{fieldAt}
 use Rattle.format.specs.Telegrams.{Entry, bits, values, Telegram}
 use Rattle.format.specs.Telegrams.Result.{accepted}
 use Rattle.laws.proofs.Prefix.{bits-no-prefix}
+use Rattle.telegram.specs.Along.{Onward}
 use Rattle.telegram.specs.Machine.{Advanced}
 use Rattle.telegram.specs.Filling.{Filling, Filled}
 use Rattle.telegram.specs.Reader.{valuesOver}
 use Rattle.telegram.specs.declared.todo.Todo.{Todo}
 use Rattle.telegram.specs.declared.todo.Ahead.{Ahead}
 use Rattle.telegram.specs.declared.todo.Ahead.the-variants.{On, Mark}
-use Rattle.telegram.proofs.Runs.{stored, Onward, onward-first, valueDue, restDue, values-front, bits-front, positive, narrow, low, small, nothing-left, onward-next}
+use Rattle.telegram.proofs.Runs.{stored, onward-first, valueDue, restDue, values-front, bits-front, positive, narrow, low, small, nothing-left, onward-next}
 
 -- ---- the bits in front
 

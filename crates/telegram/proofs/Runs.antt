@@ -17,7 +17,8 @@ use Rattle.format.specs.Telegrams.Run.{last, more}
 use Rattle.format.proofs.Rows.{header-at}
 use Rattle.laws.proofs.Sources.{bitsIn-entry, width-positive}
 use Rattle.laws.proofs.Steps.{go-next, over-mark}
-use Rattle.telegram.specs.Machine.{todoOf, itemsOf, Tidy, TidyOn, Advanced}
+use Rattle.telegram.specs.Along.{Onward}
+use Rattle.telegram.specs.Machine.{todoOf, itemsOf, TidyOn, Advanced}
 use Rattle.telegram.specs.declared.todo.Todo.{Todo}
 use Rattle.telegram.specs.declared.todo.Ahead.{Ahead}
 use Rattle.telegram.specs.declared.todo.Ahead.the-variants.{On, Mark}
@@ -78,14 +79,6 @@ held (more {s = q} {v = v} {t = t} {c = c} {es = es} f e r) =
     }
 
 -- ---- before a field
-
--- these entries are left to send from bit at on, and t says what is to be sent
-pub record Onward (t : Todo) (at : ℕ) (left : List Entry) : Type 0 where
-  pub state : State
-  pub run : Run paper state left
-  pub here : state .at ≡ at
-  pub todo : state .todo ≡ todoOf t
-  pub tidy : Tidy t
 
 -- before the first field, the whole telegram
 pub onward-first : {es : List Entry} → Telegram paper es → Onward (record { node = 1; left = 0; outer = 0 }) 0 es

@@ -20,12 +20,13 @@ use Rattle.format.specs.Telegrams.{Entry, bits, values, Telegram}
 use Rattle.laws.proofs.Demand2.{length-bits, below-bits, room}
 use Rattle.laws.proofs.Tile.{tiled}
 use Rattle.laws.proofs.Prefix.{values-no-prefix}
+use Rattle.telegram.specs.Along.{Onward}
 use Rattle.telegram.specs.Machine.{Advanced}
 use Rattle.telegram.specs.Writer.{Storing, Stored}
 use Rattle.telegram.specs.declared.todo.Todo.{Todo}
 use Rattle.telegram.specs.declared.todo.Ahead.{Ahead}
 use Rattle.telegram.specs.declared.todo.Ahead.the-variants.{On, Mark}
-use Rattle.telegram.proofs.Runs.{stored, Onward, onward-first, valueDue, restDue, values-front, bits-front, positive, narrow, low, small, nothing-left, onward-next}
+use Rattle.telegram.proofs.Runs.{stored, onward-first, valueDue, restDue, values-front, bits-front, positive, narrow, low, small, nothing-left, onward-next}
 
 -- ---- bits stored over bits
 

@@ -4,3 +4,5 @@ pub mod Machine
 pub mod Seen
 pub mod Filling
 pub mod Writer
+pub mod Along
+pub mod Normaliser

@@ -1,15 +1,18 @@
-// Checking, reading and writing telegrams, by one machine that normalising will drive too.
+// Checking, reading, writing and normalising telegrams, by one machine.
 mod answer;
 mod driver;
 mod earlier;
 mod machine;
+mod normaliser;
 mod reader;
 mod rows;
 mod state;
 mod todo;
 mod verdict;
+mod views;
 mod writer;
 
+pub use normaliser::normalise;
 pub use reader::check;
 pub use reader::read;
 pub use writer::write;

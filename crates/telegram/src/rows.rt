@@ -16,6 +16,10 @@ pub(crate) const SEND: u32 = 2;
 pub(crate) const TIMES: u32 = 5;
 
 // The codes of fields, as the table has them. Below SIZE a value may be anything and nothing is kept of it.
+pub(crate) const DISTANCE: u32 = 1;
+
+pub(crate) const TEXT: u32 = 2;
+
 pub(crate) const SIZE: u32 = 3;
 
 pub(crate) const PIG: u32 = 4;
@@ -29,6 +33,8 @@ pub(crate) const PACKET: u32 = 7;
 pub(crate) const USER: u32 = 8;
 
 pub(crate) const DIRECTION: u32 = 9;
+
+pub(crate) const SCALE: u32 = 11;
 
 pub(crate) fn act(rows: &[u32; 213], k: usize) -> u32
     requires { ⌜ InTable (now rows) k ⌝ }

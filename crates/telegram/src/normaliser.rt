@@ -1,0 +1,190 @@
+// Normalising a telegram: what it says, told in metres wherever a packet can be.
+//
+// A refusal changes no output, so normalising checks first, and tells in a second run, which follows the rows alone. At a scale the run
+// looks ahead, up to the next one, whether every distance is a whole number of metres that fits its field.
+ghost use mathlib.Core.Path.{_≡_};
+ghost use Prim.Native.Nat.{_<_, _≤_};
+ghost use Rattle.distance.specs.Distance.{numberOf};
+ghost use Rattle.format.specs.Normal.{metric};
+ghost use Rattle.format.specs.Rules.{paper};
+ghost use Rattle.format.specs.Table.{words};
+ghost use Rattle.telegram.specs.Along.{Some, Whichever};
+ghost use Rattle.telegram.specs.Machine.{InTable};
+ghost use Rattle.telegram.specs.Normaliser.{Normalise, Telling, Normalised, converted, inMetres, Rescaled, Tells, Sendable};
+use crate::answer::refuse;
+use crate::reader::check;
+use crate::rows::width;
+use crate::todo::Ahead;
+use crate::todo::Todo;
+use crate::todo::advance;
+use crate::views::View;
+use crate::views::counts;
+use bits::Cursor;
+use bits::Taken;
+use distance::Scale;
+use distance::Scaled;
+use distance::Steps;
+use distance::Told;
+use format::Answer;
+use format::Kind;
+use format::table;
+
+// What is sent for a value, and the scales that hold from there on: the telegram's, and the normal form's.
+pub struct Retold {
+    pub value: u64,
+    pub from: Scale,
+    pub to: Scale,
+}
+
+// Writes the normal form of a telegram into out, and answers its n. A refusal leaves out as it was.
+pub fn normalise(s: &[u8], n: usize, out: &mut [u8]) -> Answer
+    ensures { λ r. ⌜ Normalise paper (now (s .entry)) n (now (out .entry)) r (now (out .exit)) ⌝ }
+{
+    if out.len() < 104 {
+        return refuse(Kind::Room, 0);
+    }
+    let a = check(s, n);
+    let Answer::Accepted(_) = a else {
+        return a;
+    };
+    tell(s, n, out);
+    Answer::Accepted(n)
+}
+
+// Stores the n bits of the normal form. The last byte is cleared first, so that its unused low bits are 0.
+fn tell(s: &[u8], n: usize, out: &mut [u8])
+    requires { ⌜ Telling (now s) n (now out) ⌝ }
+    ensures { λ r. ⌜ Normalised (now (s .entry)) n (now (out .entry)) (now (out .exit)) ⌝ }
+{
+    let rows = table::rows();
+    let last = (n - 1) / 8;
+    out[last] = 0;
+    let mut t = Todo {
+        node: 1,
+        left: 0,
+        outer: 0,
+    };
+    let mut c = Cursor { at: 0 };
+    let mut from = Scale::Tenths;
+    let mut to = Scale::Tenths;
+    loop {
+        let k = t.node;
+        let w = width(&rows, k);
+        let at = c.at;
+        let Taken::Field(v, next) = c.take(s, n, w) else {
+            return;
+        };
+        let Ahead::On(u) = advance(&rows, t, v) else {
+            bits::put(out, at, w, v);
+            return;
+        };
+        let x = retell(&rows, s, n, k, v, u, next, from, to);
+        bits::put(out, at, w, x.value);
+        t = u;
+        c = next;
+        from = x.from;
+        to = x.to;
+    }
+}
+
+// What is sent for the value v of row k, before what u says is to be sent from the cursor on.
+fn retell(rows: &[u32; 213], s: &[u8], n: usize, k: usize, v: u64, u: Todo, next: Cursor, from: Scale, to: Scale) -> Retold
+    requires { ⌜ InTable (now rows) k × Sendable k v × Some (now s) n u (next .at) ⌝ }
+    ensures { λ r. ⌜ Whichever (now (s .entry)) n u (next .at) (λ es. Tells from to k v es r) ⌝ }
+{
+    match counts(rows, k, v) {
+        View::Kept => Retold { value: v, from, to },
+        View::Scales => rescale(rows, s, n, v, u, next),
+        View::Measures => {
+            let value = convert(v, from, to);
+            Retold { value, from, to }
+        }
+    }
+}
+
+// At a scale of v: in metres, if every distance up to the next scale can be told so, and else as it is.
+fn rescale(rows: &[u32; 213], s: &[u8], n: usize, v: u64, u: Todo, next: Cursor) -> Retold
+    requires { ⌜ (now rows ≡ words) × (v ≤ 2) × Some (now s) n u (next .at) ⌝ }
+    ensures { λ r. ⌜ Whichever (now (s .entry)) n u (next .at) (λ es. Rescaled v es r) ⌝ }
+{
+    let from = scale(v);
+    if metric(rows, s, n, from, u, next) {
+        return Retold {
+            value: 1,
+            from,
+            to: Scale::Metres,
+        };
+    }
+    Retold {
+        value: v,
+        from,
+        to: from,
+    }
+}
+
+// The scale that a Q_SCALE of at most 2 is.
+fn scale(v: u64) -> Scale
+    requires { ⌜ v ≤ 2 ⌝ }
+    ensures { λ r. ⌜ numberOf r ≡ v ⌝ }
+{
+    match Scale::of(v) {
+        Scaled::By(q) => q,
+        Scaled::Not => Scale::Tenths,
+    }
+}
+
+// Whether every distance from here up to the next scale is, at the scale q, a whole number of metres that fits its field.
+fn metric(rows: &[u32; 213], s: &[u8], n: usize, q: Scale, first: Todo, start: Cursor) -> bool
+    requires { ⌜ (now rows ≡ words) × Some (now s) n first (start .at) ⌝ }
+    ensures { λ r. ⌜ Whichever (now (s .entry)) n first (start .at) (λ es. r ≡ metric (numberOf q) es) ⌝ }
+{
+    let mut t = first;
+    let mut c = start;
+    loop {
+        let k = t.node;
+        let w = width(rows, k);
+        let Taken::Field(v, next) = c.take(s, n, w) else {
+            return true;
+        };
+        match counts(rows, k, v) {
+            View::Kept => {}
+            View::Scales => {
+                return true;
+            }
+            View::Measures => {
+                if !in_metres(q, v, w) {
+                    return false;
+                }
+            }
+        }
+        let Ahead::On(u) = advance(rows, t, v) else {
+            return true;
+        };
+        t = u;
+        c = next;
+    }
+}
+
+// Whether v steps of the scale q are a whole number of metres that fits w bits.
+fn in_metres(q: Scale, v: u64, w: usize) -> bool
+    requires { ⌜ v < 1048576 ⌝ }
+    ensures { λ r. ⌜ r ≡ inMetres q v w ⌝ }
+{
+    let d = Steps::new(v as u32).decimetres(q);
+    match d.steps(Scale::Metres) {
+        Told::Whole(m) => bits::fits(m.number() as u64, w),
+        Told::Not => false,
+    }
+}
+
+// v steps of the scale from in steps of the scale to.
+fn convert(v: u64, from: Scale, to: Scale) -> u64
+    requires { ⌜ v < 1048576 ⌝ }
+    ensures { λ r. ⌜ r ≡ converted from to v ⌝ }
+{
+    let d = Steps::new(v as u32).decimetres(from);
+    match d.steps(to) {
+        Told::Whole(m) => m.number() as u64,
+        Told::Not => v,
+    }
+}
