@@ -1,6 +1,6 @@
 -- Demand 3: the normal form decides whether two accepted telegrams say the same, for any terms. Assumes nothing.
 use mathlib.Core.Bool.{false}
-use mathlib.Core.List.{List, [], _∷_, _++_, append-nil}
+use mathlib.Core.List.{List, [], _∷_, _++_, append-nil, map}
 use mathlib.Core.Logic.{_↔_}
 use mathlib.Core.Path.{_≡_, sym, ap, _∙_}
 use Prim.Native.Nat.{ℕ, _≤_}
@@ -11,13 +11,16 @@ use Rattle.format.specs.Normal.{view, says, metric, normal}
 use Rattle.format.specs.Normal.View.{scales}
 use Rattle.laws.proofs.Demand2.{length-bits}
 use Rattle.laws.proofs.Prefix.{bits-no-prefix}
-use Rattle.laws.proofs.Views.{names-normal, places-normal, bitCount-normal}
+use Rattle.laws.proofs.Views.{fields-normal, names-normal, places-normal, bitCount-normal}
 use Rattle.laws.proofs.Told.{fair, fair-after, Tells, tells-same}
 use Rattle.laws.proofs.OneScale.{one-scale}
 use Rattle.laws.proofs.Kept.{says-normal, run-normal}
 use Rattle.laws.proofs.Same.{normal-same}
 
 -- ---- "All other fields, the order and the lengths stay"
+
+pub normal-fields : (es : List Entry) → map (λ (e : Entry). e .field) (normal es) ≡ map (λ (e : Entry). e .field) es
+normal-fields es = fields-normal 0 0 es
 
 pub normal-names : (es : List Entry) → names (normal es) ≡ names es
 normal-names es = names-normal 0 0 es

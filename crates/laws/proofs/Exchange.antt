@@ -15,7 +15,6 @@ use Rattle.format.specs.Packets.Items.{end, nest, send, sendIf, sendEither, sen
 use Rattle.format.specs.Rules.{State, Context, Terms, Next, step, field, due, named, past, next, ruleOf, broken, noted, onward, verdict, unless, forbidden}
 use Rattle.format.specs.Rules.Next.{go, over, breaks}
 use Rattle.format.specs.Telegrams.{Entry, entry}
-use Rattle.format.specs.declared.Kind.{Kind}
 use Rattle.format.specs.Normal.{viewOf, view, put}
 use Rattle.format.specs.Normal.View.{kept, scales, measures}
 

@@ -1,11 +1,11 @@
 -- The normal form says the same, and that of a run is a run. Assumes nothing.
 use mathlib.Core.Bool.{Bool, true, false, cond}
 use mathlib.Core.List.{List, [], _∷_}
-use mathlib.Core.Path.{_≡_, refl, sym, ap, _∙_, subst}
+use mathlib.Core.Path.{_≡_, refl, _∙_}
 use Prim.Native.Nat.{ℕ, _^_, _<_, _≤_}
 use native.Mathlib.Omega.{arith}
 use lib.Pow.{pow-mono}
-use Rattle.format.specs.Rules.{State, Terms, step, field, named}
+use Rattle.format.specs.Rules.{State, Terms, field}
 use Rattle.format.specs.Telegrams.{Entry, entry, Run, Fits}
 use Rattle.format.specs.Telegrams.Run.{last, more}
 use Rattle.format.specs.Normal.{View, view, choose, decimetres, steps, saysUnder, metric, best, put, normalUnder}

@@ -4,7 +4,6 @@ use mathlib.Core.Logic.{_↔_}
 use mathlib.Core.Path.{_≡_, refl, sym, ap, ap₂, _∙_, subst}
 use Prim.Native.Nat.{ℕ}
 use native.Mathlib.Omega.{arith}
-use Rattle.format.specs.Fields.{Field}
 use Rattle.format.specs.Packets.{Items}
 use Rattle.format.specs.Rules.{State, Context, Terms, Next, step, named, moved}
 use Rattle.format.specs.Rules.Next.{go, over}
@@ -13,7 +12,7 @@ use Rattle.format.specs.Telegrams.Run.{last, more}
 use Rattle.format.specs.Normal.{View, view, choose, decimetres, Said, saysUnder, says}
 use Rattle.format.specs.Normal.Said.{sent, apart, long}
 use Rattle.format.specs.Normal.View.{kept, scales, measures}
-use Rattle.laws.proofs.Exchange.{Alike, distance-alike, scale-alike, scale-still, scale-named}
+use Rattle.laws.proofs.Exchange.{distance-alike, scale-alike, scale-named}
 use Rattle.laws.proofs.Told.{Fair, fair}
 
 -- what is said, without the scales

@@ -39,7 +39,7 @@ module _ (e : Entry) (es : List Entry) (f : Fair e es) (h : view e es ≡ measur
   told-one (suc (suc zero)) (suc (suc (suc r))) hq hr n t = absurd (omega arith)
   told-one (suc (suc (suc q))) r hq hr n t = absurd (omega arith)
 
--- so do they where the metres cannot: no two scales can say the same distances
+-- so where metres cannot say them, one scale alone can
 module _ (q r : ℕ) (hq : q ≤ 2) (hr : r ≤ 2) (n : r ≡ q → ⊥) where
   tells-one-at : (e : Entry) (es : List Entry) → Fair e es → (Tells q r es → Tells q 1 es) → (k : View) → view e es ≡ k
       → chooseT k (Tells q r es) Unit (Told q r e es × Tells q r es) → chooseT k (Tells q 1 es) Unit (Told q 1 e es × Tells q 1 es)

@@ -13,7 +13,7 @@ use Rattle.format.specs.Normal.Said.{sent, apart, long}
 use Rattle.format.specs.Normal.View.{kept, scales, measures}
 use Rattle.laws.proofs.Views.{metric-none, metric-kept, metric-scales, metric-measures, normal-none, normal-kept, normal-scales, normal-measures}
 use Rattle.laws.proofs.Exchange.{Metric, measures-is, distance-alone}
-use Rattle.laws.proofs.Told.{Fair, AllFair, Told, Tells, chooseT}
+use Rattle.laws.proofs.Told.{AllFair, Tells}
 use Rattle.laws.proofs.OneScale.{one-scale}
 
 abbrev entryOf : Field → ℕ → Entry

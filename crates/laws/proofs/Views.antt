@@ -1,12 +1,12 @@
 -- One turn of what is said, of the decision for metres and of the normal form, for each view of the entry in front; and what the
 -- normal form leaves as it is. Assumes nothing.
 use mathlib.Core.Bool.{true, _&&_}
-use mathlib.Core.List.{List, [], _∷_, _++_}
+use mathlib.Core.List.{List, [], _∷_, _++_, map}
 use mathlib.Core.Path.{_≡_, refl, ap}
 use Prim.Native.Nat.{ℕ, suc, _+_}
 use Prim.Native.String.{String}
 use lib.ListN.{length}
-use Rattle.format.specs.Fields.{Sense}
+use Rattle.format.specs.Fields.{Field, Sense}
 use Rattle.format.specs.Fields.Sense.{plain, scale, distance, textLength}
 use Rattle.format.specs.Telegrams.{Entry, names, places, bitCount}
 use Rattle.format.specs.Normal.{viewOf, view, decimetres, steps, saysUnder, metres, metric, best, put, normalUnder}
@@ -82,6 +82,11 @@ unfolding normalUnder
 normal-none q r = refl
 
 -- ---- "All other fields, the order and the lengths stay"
+
+pub fields-normal : (q r : ℕ) (es : List Entry) → map (λ (e : Entry). e .field) (normalUnder q r es) ≡ map (λ (e : Entry). e .field) es
+unfolding normalUnder
+fields-normal q r [] = refl
+fields-normal q r (e ∷ es) = ap (λ (l : List Field). e .field ∷ l) (fields-normal _ _ es)
 
 pub names-normal : (q r : ℕ) (es : List Entry) → names (normalUnder q r es) ≡ names es
 unfolding normalUnder
