@@ -81,7 +81,8 @@ module _ (p : Terms) (q r : ℕ) (s : State) (v : ℕ) (es : List Entry) where
         alike = distance-alike p s v (t .0 .count) es h;
       })
 
-  tells-next : AllFair es → (k : View) → chooseT k (Tells q r es) Unit (Told q r (entry s v) es × Tells q r es)
+  -- the scales after it can tell what follows
+  pub tells-next : AllFair es → (k : View) → chooseT k (Tells q r es) Unit (Told q r (entry s v) es × Tells q r es)
       → Tells (choose k q v q) (choose k r (best v es) r) es
   tells-next f kept t = t
   tells-next f scales t = tells-best v es f

@@ -10,8 +10,12 @@ pub mod Driving
 pub mod Scanning
 pub mod Measuring
 pub mod Runs
+pub mod Taking
 pub mod Filling
+pub mod Laying
 pub mod Storing
+pub mod Distances
+pub mod Telling
 pub mod Checking
 pub mod Writing
 pub mod Answers

@@ -47,6 +47,7 @@ pub record Held (q : State) (left : List Entry) : Type 0 where
   pub fits : Fits q value
   pub front : left ≡ entry q value ∷ rest
   pub mark : next (q .todo) value ≡ none → rest ≡ []
+  pub ends : next (q .todo) value ≡ none → q .todo ≡ end
   pub goes : (u : Items) → next (q .todo) value ≡ some u → Goes q u rest
 
 mark-last : next end 255 ≡ none
@@ -65,6 +66,7 @@ held (last {s = q} {v = v} f e) =
       fits = f;
       front = refl;
       mark = λ h. refl;
+      ends = λ h. over-mark paper q v e .0;
       goes = λ u h. let z : _≡_ {A = ℕ} 0 1 = cc in absurd (omega arith);
     }
 held (more {s = q} {v = v} {t = t} {c = c} {es = es} f e r) =
@@ -75,6 +77,7 @@ held (more {s = q} {v = v} {t = t} {c = c} {es = es} f e r) =
       fits = f;
       front = refl;
       mark = λ h. cc;
+      ends = λ h. cc;
       goes = λ u h. record { state = moved q t c; here = refl; todo = cc; run = r };
     }
 
@@ -134,6 +137,10 @@ module _ {t : Todo} {at : ℕ} {left : List Entry} (o : Onward t at left) where
       -- the mark is the last
       pub nothing-left : x ≡ Mark → restDue ≡ []
       nothing-left m = held (o .run) .mark (items-next ∙ ap itemsOf m)
+
+      -- it is due where packets are
+      pub at-end : x ≡ Mark → o .state .todo ≡ end
+      at-end m = held (o .run) .ends (items-next ∙ ap itemsOf m)
 
       -- and else the rest is left
       pub onward-next : {u : Todo} → x ≡ On u → Onward u (at + w) restDue

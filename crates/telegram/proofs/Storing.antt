@@ -1,172 +1,54 @@
--- The second run of the writer: what it has stored, and that its bits are those of the telegram's bytes. Assumes nothing.
-use mathlib.Core.Bool.{Bool, true}
-use mathlib.Core.Path.{_≡_, refl, sym, ap, ap₂, _∙_}
-use mathlib.Core.List.{List, [], _∷_, _++_, append-nil, append-assoc}
-use Prim.Native.Nat.{ℕ, suc, _+_, _-_, _*_, _/_, _^_, _<_, _≤_}
-use native.Mathlib.Nat.{zero-add, add-zero}
+-- The second run of the writer: the values that it goes over are the telegram's. Assumes nothing.
+use mathlib.Core.Path.{_≡_, refl, sym, ap, _∙_}
+use mathlib.Core.List.{List, [], _∷_, append-nil}
+use mathlib.Core.Bool.{Bool}
+use Prim.Native.Nat.{ℕ, suc, _+_, _-_, _/_, _<_, _≤_}
+use native.Mathlib.Nat.{add-zero}
 use native.Mathlib.Omega.{arith}
-use borrow.Author.Tests.{lt-ltb}
-use lib.Dec.{ltb}
-use lib.ListN.{length, take, drop, getD, set, replicate, length-append, length-drop, length-set, length-replicate, take-append-drop, replicate-append-replicate}
-use lib.Seq.{take-at, drop-at, length-take-le, drop-drop, drop-append-le, set-split, getD-drop}
-use Rattle.bits.specs.Bits.{digits, bitsOf, bytesFor, bytesOf, Below}
-use Rattle.bits.specs.Put.{over, Put}
-use Rattle.bits.proofs.Digits.{length-digits}
-use Rattle.bits.proofs.Bytes.{below-append, below-drop, below-bytesOf, length-bitsOf, bitsOf-append, bitsOf-cons, bitsOf-bytesOf, bytesOf-bitsOf, length-bytesOf}
-use Rattle.bits.proofs.Fields.{length-over, put-writes, bitsOf-putAt}
+use lib.ListN.{length, drop, getD, set, length-drop}
+use lib.Seq.{drop-drop, getD-drop}
+use Rattle.bits.specs.Bits.{Below}
+use Rattle.bits.specs.Put.{Put}
 use Rattle.format.specs.Rules.{paper}
 use Rattle.format.specs.Table.{fieldAt}
-use Rattle.format.specs.Telegrams.{Entry, bits, values, Telegram}
-use Rattle.laws.proofs.Demand2.{length-bits, below-bits, room}
-use Rattle.laws.proofs.Tile.{tiled}
+use Rattle.format.specs.Telegrams.{Entry, bits, values}
+use Rattle.format.specs.Telegrams.Result.{accepted}
+use Rattle.laws.proofs.Demand2.{length-bits}
 use Rattle.laws.proofs.Prefix.{values-no-prefix}
 use Rattle.telegram.specs.Along.{Onward}
 use Rattle.telegram.specs.Machine.{Advanced}
-use Rattle.telegram.specs.Writer.{Storing, Stored}
+use Rattle.telegram.specs.Writer.{bytesOver, Storing, Stored}
 use Rattle.telegram.specs.declared.todo.Todo.{Todo}
 use Rattle.telegram.specs.declared.todo.Ahead.{Ahead}
 use Rattle.telegram.specs.declared.todo.Ahead.the-variants.{On, Mark}
-use Rattle.telegram.proofs.Runs.{stored, onward-first, valueDue, restDue, values-front, bits-front, positive, narrow, low, small, nothing-left, onward-next}
+use Rattle.telegram.proofs.Laying.{Laid, laid-first, laid-whole, laid-on}
+use Rattle.telegram.proofs.Runs.{onward-first, valueDue, restDue, values-front, positive, nothing-left, onward-next}
 
--- ---- bits stored over bits
-
-module _ (bs : List ℕ) (at w v : ℕ) (h : at + w ≤ length bs) where
-  abbrev front : List ℕ
-  front = take at bs ++ digits w v
-
-  over-front : over bs at w v ≡ front ++ drop (at + w) bs
-  unfolding over
-  over-front = sym (append-assoc (take at bs) (digits w v) (drop (at + w) bs))
-
-  length-front : length front ≡ at + w
-  length-front = length-append (take at bs) (digits w v) ∙ ap₂ (λ (a b : ℕ). a + b) (length-take-le at bs (omega arith)) (length-digits w v)
-
-  take-over : take (at + w) (over bs at w v) ≡ front
-  take-over = ap (take (at + w)) over-front ∙ take-at front (drop (at + w) bs) (at + w) length-front
-
-  drop-over : (k : ℕ) → drop (k + (at + w)) (over bs at w v) ≡ drop (at + w + k) bs
-  drop-over k =
-      let c : k + (at + w) ≡ at + w + k = omega arith in
-      ap (λ (m : ℕ). drop m (over bs at w v)) c
-      ∙ sym (drop-drop k (at + w) (over bs at w v))
-      ∙ ap (drop k) (ap (drop (at + w)) over-front ∙ drop-at front (drop (at + w) bs) (at + w) length-front)
-      ∙ drop-drop k (at + w) bs
-
-  -- a field and more behind it is more behind a field that is written
-  stored-over : (xs : List ℕ) → stored bs (digits w v ++ xs) at ≡ stored (over bs at w v) xs (at + w)
-  stored-over xs =
-      let c : length (digits w v ++ xs) + at ≡ at + w + length xs =
-      ap (λ (k : ℕ). k + at) (length-append (digits w v) xs ∙ ap (λ (k : ℕ). k + length xs) (length-digits w v)) ∙ omega arith in
-      ap (λ (k : ℕ). take at bs ++ ((digits w v ++ xs) ++ drop k bs)) c
-      ∙ ap (λ (y : List ℕ). take at bs ++ y) (append-assoc (digits w v) xs (drop (at + w + length xs) bs))
-      ∙ sym (append-assoc (take at bs) (digits w v) (xs ++ drop (at + w + length xs) bs))
-      ∙ ap₂ (λ (a d : List ℕ). a ++ (xs ++ d)) (sym take-over) (sym (drop-over (length xs)))
-
-stored-none : (ys : List ℕ) (k : ℕ) → stored ys [] k ≡ ys
-stored-none ys k = ap (λ (m : ℕ). take k ys ++ drop m ys) (zero-add k) ∙ take-append-drop k ys
-
--- ---- the last byte, cleared
-
-zero-byte : digits 8 0 ≡ replicate 8 0
-unfolding digits
-zero-byte = refl
-
-zeros-left : (m : ℕ) → m ≤ 8 → drop m (digits 8 0) ≡ replicate (8 - m) 0
-zeros-left m h =
-    let c : 8 ≡ m + (8 - m) = omega arith in
-    ap (drop m) (zero-byte ∙ ap (λ (k : ℕ). replicate k 0) c ∙ sym (replicate-append-replicate m (8 - m) 0))
-    ∙ drop-at (replicate m 0) (replicate (8 - m) 0) m (length-replicate m 0)
-
--- from the m-th bit of byte q on, 0 to the byte's end and then the bits of the bytes behind it
-cleared : (s : List ℕ) (q m : ℕ) → m ≤ 8 → q < length s
-    → drop (8 * q + m) (bitsOf (set s q 0)) ≡ replicate (8 - m) 0 ++ bitsOf (drop (suc q) s)
-cleared s q m h l =
-    let before = bitsOf (take q s) in
-    let behind = bitsOf (drop (suc q) s) in
-    let split : bitsOf (set s q 0) ≡ before ++ (digits 8 0 ++ behind) =
-    ap bitsOf (set-split s q 0 l)
-    ∙ bitsOf-append (take q s) (0 ∷ drop (suc q) s)
-    ∙ ap (λ (y : List ℕ). before ++ y) (bitsOf-cons 0 (drop (suc q) s)) in
-    let size : length before ≡ 8 * q = length-bitsOf (take q s) ∙ ap (λ (k : ℕ). 8 * k) (length-take-le q s (omega arith)) in
-    ap (drop (8 * q + m)) split
-    ∙ sym (drop-drop m (8 * q) (before ++ (digits 8 0 ++ behind)))
-    ∙ ap (drop m) (drop-at before (digits 8 0 ++ behind) (8 * q) size)
-    ∙ drop-append-le m (digits 8 0) behind (rw (length-digits 8 0) h)
-    ∙ ap (λ (y : List ℕ). y ++ behind) (zeros-left m h)
-
--- a bit string in front of bytes whose byte of its last bit is cleared is its bytes in front of the bytes behind them
-bytes-over : (bs s : List ℕ) → Below 2 bs → Below 256 s → 0 < length bs → length bs ≤ 8 * length s
-    → bytesOf (bs ++ drop (length bs) (bitsOf (set s ((length bs - 1) / 8) 0))) ≡ bytesOf bs ++ drop (length (bytesOf bs)) s
-bytes-over bs s b g p l =
-    let n = length bs in
-    let q = (n - 1) / 8 in
-    let m = n - 8 * q in
-    let en : n ≡ 8 * q + m = omega arith in
-    let em : 8 - m ≡ 8 * bytesFor n - n = omega arith in
-    let eq : suc q ≡ length (bytesOf bs) = let c : suc q ≡ bytesFor n = omega arith in c ∙ sym (length-bytesOf bs) in
-    let rest = drop (length (bytesOf bs)) s in
-    let clear : drop n (bitsOf (set s q 0)) ≡ replicate (8 * bytesFor n - n) 0 ++ bitsOf rest =
-    ap (λ (k : ℕ). drop k (bitsOf (set s q 0))) en
-    ∙ cleared s q m (omega arith) (omega arith)
-    ∙ ap₂ (λ (j k : ℕ). replicate j 0 ++ bitsOf (drop k s)) em eq in
-    let whole : bs ++ drop n (bitsOf (set s q 0)) ≡ bitsOf (bytesOf bs ++ rest) =
-    ap (λ (y : List ℕ). bs ++ y) clear
-    ∙ sym (append-assoc bs (replicate (8 * bytesFor n - n) 0) (bitsOf rest))
-    ∙ ap (λ (y : List ℕ). y ++ bitsOf rest) (sym (bitsOf-bytesOf bs b))
-    ∙ sym (bitsOf-append (bytesOf bs) rest) in
-    ap bytesOf whole
-    ∙ bytesOf-bitsOf (bytesOf bs ++ rest)
-    (below-append 256 (bytesOf bs) rest (below-bytesOf bs b) (below-drop 256 (length (bytesOf bs)) s g))
-
--- ---- a turn
-
--- before a field: with the bits that are left stored from bit at on, the bits are those promised. The bytes were base before the first.
+-- before a field
 pub record Laying (vs : List ℕ) (n : ℕ) (base out : List ℕ) (t : Todo) (at i : ℕ) : Type 0 where
-  -- the telegram
   pub entries : List Entry
-  pub telegram : Telegram paper entries
   pub same : vs ≡ values entries
-  pub size : n ≡ length (bits entries)
-  -- what is left of it
   pub left : List Entry
   pub onward : Onward t at left
+  pub laid : Laid entries n base out at left
   pub ahead : drop i vs ≡ values left
-  -- and what is stored
-  pub holds : bits entries ++ drop n (bitsOf base) ≡ stored (bitsOf out) (bits left) at
   pub count : i ≤ at
-  pub keeps : length out ≡ length base
-  pub room : 104 ≤ length base
 
 module _ {vs : List ℕ} {n : ℕ} {out : List ℕ} (s : Storing vs n out) where
-  bits-all : n ≡ length (bits (s .entries))
+  pub bits-all : n ≡ length (bits (s .entries))
   bits-all = s .size ∙ sym (length-bits (s .entries))
-
-  pub some-bits : 0 < n
-  some-bits = let t = tiled paper (s .telegram) in omega (arith, bits-all, t .all)
-
-  few-bits : n ≤ 830
-  few-bits = let r = room paper (s .telegram) in omega (arith, bits-all)
-
-  -- the last byte is one of those lent
-  pub last-in : (n - 1) / 8 < length out
-  last-in = omega (arith, few-bits, s .room)
 
   -- before the first field
   pub laying-first : Laying vs n (set out ((n - 1) / 8) 0) (set out ((n - 1) / 8) 0) (record { node = 1; left = 0; outer = 0 }) 0 0
   laying-first =
-      let base = set out ((n - 1) / 8) 0 in
       record {
         entries = s .entries;
-        telegram = s .telegram;
         same = s .same;
-        size = bits-all;
         left = s .entries;
         onward = onward-first (s .telegram);
+        laid = laid-first out (s .telegram) bits-all (s .room);
         ahead = s .same;
-        holds = ap (λ (k : ℕ). bits (s .entries) ++ drop k (bitsOf base)) (bits-all ∙ sym (add-zero (length (bits (s .entries)))));
         count = omega arith;
-        keeps = refl;
-        room = rw (length-set out ((n - 1) / 8) 0) (s .room);
       }
 
 module _ {vs : List ℕ} {n : ℕ} {base out : List ℕ} {t : Todo} {at i : ℕ} (g : Laying vs n base out t at i) where
@@ -183,79 +65,28 @@ module _ {vs : List ℕ} {n : ℕ} {base out : List ℕ} {t : Todo} {at i : ℕ}
       omega arith
 
   -- and it is the entry's
-  value-is : getD vs i 0 ≡ valueDue o
+  pub value-is : getD vs i 0 ≡ valueDue o
   value-is = ap (λ (k : ℕ). getD vs k 0) (sym (add-zero i)) ∙ sym (getD-drop i vs 0 0) ∙ ap (λ (l : List ℕ). getD l 0 0) values-left
 
-  module _ {w : ℕ} (ew : w ≡ fieldAt (t .node) .width) where
-    inside : at + w ≤ 8 * length out
-    inside = omega (arith, low o ew, g .keeps, g .room)
+  -- it is put
+  module _ {w : ℕ} (ew : w ≡ fieldAt (t .node) .width) {wrote : Bool} {after : List ℕ} (p : Put out at w (getD vs i 0) wrote after)
+      {x : Ahead} (a : Advanced t (getD vs i 0) x) where
+    -- after the end mark the bytes are the telegram's, whichever it is that has these values
+    pub stores : x ≡ Mark → (before : List ℕ) → Below 256 before → base ≡ set before ((n - 1) / 8) 0 → Stored vs before after
+    stores m before b e es tel same =
+        let one : es ≡ g .entries = values-no-prefix paper tel (g .laid .telegram) [] (append-nil (values es) ∙ sym same ∙ g .same) .0 in
+        laid-whole (g .laid) o ew value-is p (nothing-left o ew value-is a m) before b e
+        ∙ ap (λ (l : List Entry). bytesOver (accepted l) before) (sym one)
 
-    inside-bits : at + w ≤ length (bitsOf out)
-    inside-bits = rw (length-bitsOf out) inside
-
-    fits : ltb (getD vs i 0) (2 ^ w) ≡ true
-    fits = lt-ltb (getD vs i 0) (2 ^ w) (rw value-is (small o ew))
-
-    bits-left : bits (g .left) ≡ digits w (getD vs i 0) ++ bits (restDue o)
-    bits-left = bits-front o ew ∙ ap (λ (v : ℕ). digits w v ++ bits (restDue o)) (sym value-is)
-
-    -- what is stored with the field
-    holds-after : bits (g .entries) ++ drop n (bitsOf base) ≡ stored (over (bitsOf out) at w (getD vs i 0)) (bits (restDue o)) (at + w)
-    holds-after =
-        g .holds ∙ ap (λ (xs : List ℕ). stored (bitsOf out) xs at) bits-left
-        ∙ stored-over (bitsOf out) at w (getD vs i 0) inside-bits (bits (restDue o))
-
-    -- what putting it makes of the bytes
-    module _ {wrote : Bool} {after : List ℕ} (p : Put out at w (getD vs i 0) wrote after) where
-      bits-after : bitsOf after ≡ over (bitsOf out) at w (getD vs i 0)
-      bits-after = ap bitsOf (p .contents) ∙ bitsOf-putAt out at w (getD vs i 0) (narrow o ew) inside fits
-
-      length-after : length after ≡ length base
-      length-after =
-          let h : 8 * length after ≡ 8 * length out =
-          sym (length-bitsOf after) ∙ ap length bits-after ∙ length-over (bitsOf out) at w (getD vs i 0) inside-bits ∙ length-bitsOf out in
-          omega (arith, g .keeps)
-
-      -- no byte is lost since the last was cleared
-      pub same-size : (before : List ℕ) → base ≡ set before ((n - 1) / 8) 0 → length after ≡ length before
-      same-size before e = length-after ∙ ap length e ∙ length-set before ((n - 1) / 8) 0
-
-      module _ {x : Ahead} (a : Advanced t (getD vs i 0) x) where
-        -- after the end mark every bit is stored
-        all-bits : x ≡ Mark → bits (g .entries) ++ drop n (bitsOf base) ≡ over (bitsOf out) at w (getD vs i 0)
-        all-bits m =
-            holds-after
-            ∙ ap (λ (es : List Entry). stored (over (bitsOf out) at w (getD vs i 0)) (bits es) (at + w)) (nothing-left o ew value-is a m)
-            ∙ stored-none (over (bitsOf out) at w (getD vs i 0)) (at + w)
-
-        -- and the bytes are the telegram's, whichever it is that has these values
-        pub stores : x ≡ Mark → (before : List ℕ) → Below 256 before → base ≡ set before ((n - 1) / 8) 0 → Stored vs before after
-        stores m before b e es tel same =
-            let one : es ≡ g .entries = values-no-prefix paper tel (g .telegram) [] (append-nil (values es) ∙ sym same ∙ g .same) .0 in
-            let tiles = tiled paper tel in
-            let within = room paper tel in
-            let en : n ≡ length (bits es) = g .size ∙ ap (λ (l : List Entry). length (bits l)) (sym one) in
-            let eb : length base ≡ length before = ap length e ∙ length-set before ((n - 1) / 8) 0 in
-            p .contents
-            ∙ put-writes out at w (getD vs i 0) (narrow o ew) inside fits
-            ∙ ap bytesOf (sym (all-bits m) ∙ ap (λ (l : List Entry). bits l ++ drop n (bitsOf base)) (sym one))
-            ∙ ap (λ (l : List ℕ). bytesOf (bits es ++ drop n (bitsOf l))) e
-            ∙ ap (λ (k : ℕ). bytesOf (bits es ++ drop k (bitsOf (set before ((k - 1) / 8) 0)))) en
-            ∙ bytes-over (bits es) before (below-bits es) b (omega (arith, tiles .all)) (omega (arith, g .room))
-
-        -- after another field the run goes on
-        pub lays-on : {u : Todo} → x ≡ On u → Laying vs n base after u (at + w) (i + 1)
-        lays-on m =
-            record {
-              entries = g .entries;
-              telegram = g .telegram;
-              same = g .same;
-              size = g .size;
-              left = restDue o;
-              onward = onward-next o ew value-is a m;
-              ahead = sym (drop-drop 1 i vs) ∙ ap (drop 1) values-left;
-              holds = holds-after ∙ ap (λ (l : List ℕ). stored l (bits (restDue o)) (at + w)) (sym bits-after);
-              count = omega (arith, positive o ew, g .count);
-              keeps = length-after;
-              room = g .room;
-            }
+    -- after another field the run goes on
+    pub lays-on : {u : Todo} → x ≡ On u → Laying vs n base after u (at + w) (i + 1)
+    lays-on m =
+        record {
+          entries = g .entries;
+          same = g .same;
+          left = restDue o;
+          onward = onward-next o ew value-is a m;
+          laid = laid-on (g .laid) o ew value-is p refl;
+          ahead = sym (drop-drop 1 i vs) ∙ ap (drop 1) values-left;
+          count = omega (arith, positive o ew, g .count);
+        }

@@ -4,7 +4,8 @@ use Prim.Native.Nat.{_-_}
 use native.Mathlib.Omega.{arith}
 use borrow.Author.Needs.{needs}
 use lib.ListN.{length-set}
-use Rattle.telegram.proofs.Filling.{Going, going-first, in-out, never-short, less, fills, goes-further}
+use Rattle.telegram.proofs.Filling.{Going, going-first, in-out, fills, goes-further}
+use Rattle.telegram.proofs.Taking.{never-short, less}
 use Rattle.telegram.proofs.Runs.{low}
 use Rattle.telegram.proofs.reader.fill.Statement.{statement}
 use Rattle.telegram.proofs.reader.fill.Tie as tie
@@ -22,7 +23,7 @@ loop-holds : tie.Need-loop-holds Inv-loop μ-loop
 loop-holds c = going-first _ _ _ (c .before .before .before .pre)
 
 width-requires : tie.Need-width-requires Inv-loop μ-loop
-width-requires c κs = record { table = c .before .before .rows .ensures; inside = c .before .loop .inv .onward .tidy .inside }
+width-requires c κs = record { table = c .before .before .rows .ensures; inside = c .before .loop .inv .along .onward .tidy .inside }
 
 take-requires : tie.Need-take-requires Inv-loop μ-loop
 take-requires c κs = search needs
@@ -39,12 +40,12 @@ same-length c = c .before .before .before .before .before .loop .inv .size
 returns : tie.Need-returns Inv-loop μ-loop
 returns c =
     let b = c .before .before in
-    absurd (never-short (b .before .before .before .loop .inv) (b .before .width .ensures) (b .take .ensures) (c .enum-told .given .1))
+    absurd (never-short (b .before .before .before .loop .inv .along) (b .before .width .ensures) (b .take .ensures) (c .enum-told .given .1))
 
 mul-out : tie.Need-mul-out Inv-loop μ-loop
 mul-out c =
     let b = c .before .before .before .before in
-    omega (arith, low (b .before .before .loop .inv .onward) (b .width .ensures))
+    omega (arith, low (b .before .before .loop .inv .along .onward) (b .width .ensures))
 
 slice-write-out : tie.Need-slice-write-out Inv-loop μ-loop
 slice-write-out c =
@@ -54,7 +55,7 @@ slice-write-out c =
 advance-requires : tie.Need-advance-requires Inv-loop μ-loop
 advance-requires c κs =
     let b = c .before .before .before .before .before .before .before in
-    (record { table = b .before .rows .ensures; inside = b .loop .inv .onward .tidy .inside }, b .loop .inv .onward .tidy)
+    (record { table = b .before .rows .ensures; inside = b .loop .inv .along .onward .tidy .inside }, b .loop .inv .along .onward .tidy)
 
 enum-told-2 : tie.Need-enum-told-2 Inv-loop μ-loop
 enum-told-2 c = search needs
@@ -77,13 +78,13 @@ enum-known-u c = search needs
 add-i : tie.Need-add-i Inv-loop μ-loop
 add-i c =
     let b = c .before .before .before .before .before .before .before .before .before in
-    omega (arith, low (b .before .before .loop .inv .onward) (b .width .ensures))
+    omega (arith, low (b .before .before .loop .inv .along .onward) (b .width .ensures))
 
 loop-less : tie.Need-loop-less Inv-loop μ-loop
 loop-less c =
     let v = c .before .before .before .before .before .before in
     let b = v .before .before in
-    less (b .before .before .before .loop .inv) (b .before .width .ensures) (b .take .ensures) (v .v .given .1)
+    less (b .before .before .before .loop .inv .along) (b .before .width .ensures) (b .take .ensures) (v .v .given .1)
 
 loop-again : tie.Need-loop-again Inv-loop μ-loop
 loop-again c =

@@ -8,7 +8,8 @@ use borrow.Author.Needs.{needs}
 use lib.ListN.{length}
 use Rattle.bits.proofs.Bytes.{below-known}
 use Rattle.telegram.proofs.Runs.{low}
-use Rattle.telegram.proofs.Storing.{Laying, some-bits, last-in, laying-first, in-values, same-size, stores, lays-on}
+use Rattle.telegram.proofs.Storing.{Laying, bits-all, laying-first, in-values, value-is, stores, lays-on}
+use Rattle.telegram.proofs.Laying.{some-bits, last-in, same-size}
 use Rattle.telegram.proofs.writer.store.Statement.{statement}
 use Rattle.telegram.proofs.writer.store.Tie as tie
 
@@ -22,10 +23,10 @@ rows-requires : tie.Need-rows-requires Inv-loop μ-loop
 rows-requires c κs = search needs
 
 sub-last : tie.Need-sub-last Inv-loop μ-loop
-sub-last c = some-bits (c .before .before .before .pre)
+sub-last c = let s = c .before .before .before .pre in some-bits (s .telegram) (bits-all s)
 
 slice-write-out : tie.Need-slice-write-out Inv-loop μ-loop
-slice-write-out c = last-in (c .before .before .before .pre)
+slice-write-out c = let s = c .before .before .before .pre in last-in (s .telegram) (bits-all s) (s .room)
 
 loop-holds : tie.Need-loop-holds Inv-loop μ-loop
 loop-holds c = laying-first (c .before .before .before .pre)
@@ -57,7 +58,8 @@ same-length c =
     let p = c .before .before .before .before .before .before in
     let b = p .before .before .before in
     let out = b .before .before .before .before .before .before .args .out .now in
-    same-size (b .before .before .loop .inv) (b .width .ensures) (p .put .ensures) out refl
+    let g = b .before .before .loop .inv in
+    same-size (g .laid) (g .onward) (b .width .ensures) (value-is g) (p .put .ensures) out refl
 
 returns : tie.Need-returns Inv-loop μ-loop
 returns c =

@@ -1,0 +1,258 @@
+-- The second run of the normaliser: what it puts is the normal form of what is left. Assumes nothing.
+use mathlib.Core.Bool.{Bool}
+use mathlib.Core.Path.{_≡_, refl, sym, ap, ap₂, _∙_, subst}
+use mathlib.Core.List.{List, [], _∷_, append-nil}
+use Prim.Native.Nat.{ℕ, _+_, _-_, _*_, _/_, _^_, _<_, _≤_}
+use native.Mathlib.Omega.{arith}
+use lib.ListN.{length, take, drop, set}
+use lib.Seq.{length-take-le}
+use lib.Pow.{pow-mono}
+use Rattle.bits.specs.Bits.{bitsOf, Below}
+use Rattle.bits.specs.Put.{Put}
+use Rattle.bits.specs.Take.{takeAt}
+use Rattle.bits.specs.declared.Cursor.{Cursor}
+use Rattle.bits.specs.declared.Taken.{Taken}
+use Rattle.bits.specs.declared.Taken.the-variants.{Field}
+use Rattle.bits.proofs.Bytes.{length-bitsOf}
+use Rattle.distance.specs.Distance.{numberOf}
+use Rattle.distance.specs.declared.Scale.{Scale}
+use Rattle.format.specs.Normal.{View, viewOf, view, choose, decimetres, steps, best, put, normalUnder, normal}
+use Rattle.format.specs.Normal.View.{kept, scales, measures}
+use Rattle.format.specs.Rules.{paper, due}
+use Rattle.format.specs.Packets.Items.{end}
+use Rattle.laws.proofs.Sources.{width-named}
+use Rattle.laws.proofs.Exchange.{scale-still}
+use Rattle.format.specs.Table.{fieldAt}
+use Rattle.format.specs.Telegrams.{Entry, entry, bits, Telegram, Run}
+use Rattle.format.specs.Telegrams.Result.{accepted}
+use Rattle.laws.proofs.Demand3.{normal-accepted, normal-size}
+use Rattle.laws.proofs.Kept.{run-normal, tells-next}
+use Rattle.laws.proofs.Prefix.{bits-no-prefix}
+use Rattle.laws.proofs.Told.{Fair, AllFair, fair, Told, told-steps, Tells, chooseT, tells-same, tells-best}
+use Rattle.laws.proofs.Views.{normal-none}
+use Rattle.telegram.specs.Along.{Onward, Along}
+use Rattle.telegram.specs.Machine.{Advanced}
+use Rattle.telegram.specs.Normaliser.{Telling, Normalised, Sendable, converted}
+use Rattle.telegram.specs.Writer.{bytesOver}
+use Rattle.telegram.specs.declared.normaliser.Retold.{Retold}
+use Rattle.telegram.specs.declared.todo.Todo.{Todo}
+use Rattle.telegram.specs.declared.todo.Ahead.{Ahead}
+use Rattle.telegram.specs.declared.todo.Ahead.the-variants.{On, Mark}
+use Rattle.telegram.proofs.Distances.{named-view, measures-narrow, converted-told}
+use Rattle.telegram.proofs.Laying.{Laid, laid-first, same-size, laid-whole, laid-on}
+use Rattle.telegram.proofs.Moves.{due-right}
+use Rattle.telegram.proofs.Runs.{held, valueDue, restDue, nothing-left, at-end, small}
+use Rattle.telegram.proofs.Taking.{along-first, next-at, value-is, along-next}
+use Rattle.telegram.specs.Normaliser as normaliser
+
+-- ---- the first of the entries that are left
+
+module _ {t : Todo} {at : ℕ} {left : List Entry} (o : Onward t at left) where
+  abbrev pub firstDue : Entry
+  firstDue = entry (o .state) (valueDue o)
+
+  -- how it counts is how the field of the row does
+  pub view-due : view firstDue (restDue o) ≡ viewOf (fieldAt (t .node) .sense) (valueDue o) (restDue o)
+  view-due =
+      named-view (o .state .todo) (valueDue o) (restDue o)
+      ∙ ap (λ f. viewOf (f .sense) (valueDue o) (restDue o)) (ap due (o .todo) ∙ sym (due-right t (o .tidy)))
+
+-- ---- told under the scales q and r
+
+module _ {t : Todo} {at : ℕ} {left : List Entry} (o : Onward t at left) (q r : ℕ) where
+  abbrev k : View
+  k = view (firstDue o) (restDue o)
+
+  -- what is sent for it, and the scales after it
+  abbrev pub sentFor : ℕ
+  sentFor = choose k (valueDue o) (best (valueDue o) (restDue o)) (steps r (decimetres q (valueDue o)))
+
+  abbrev pub fromNext : ℕ
+  fromNext = choose k q (valueDue o) q
+
+  abbrev pub toNext : ℕ
+  toNext = choose k r (best (valueDue o) (restDue o)) r
+
+  normal-front : normalUnder q r left ≡ put (firstDue o) sentFor ∷ normalUnder fromNext toNext (restDue o)
+  unfolding normalUnder
+  normal-front = ap (normalUnder q r) (held (o .run) .front)
+
+  module _ (h : Tells q r left) where
+    -- the normal form of what is left can be sent from here too
+    pub told-onward : Onward t at (normalUnder q r left)
+    told-onward = record { state = o .state; run = run-normal (o .run) q r h; here = o .here; todo = o .todo; tidy = o .tidy }
+
+    told-front : put (firstDue o) sentFor ∷ normalUnder fromNext toNext (restDue o) ≡ firstDue told-onward ∷ restDue told-onward
+    told-front = sym normal-front ∙ held (told-onward .run) .front
+
+    pub told-value : sentFor ≡ valueDue told-onward
+    told-value = ap first told-front
+      where
+        first : List Entry → ℕ
+        first [] = 0
+        first (e ∷ es) = e .value
+
+    pub told-rest : restDue told-onward ≡ normalUnder fromNext toNext (restDue o)
+    told-rest = sym (ap rest told-front)
+      where
+        rest : List Entry → List Entry
+        rest [] = []
+        rest (e ∷ es) = es
+
+-- ---- a turn
+
+-- before a field: with the normal form of what is left stored from bit at on, the bits are those promised
+pub record Retelling (s : List ℕ) (n : ℕ) (base out : List ℕ) (t : Todo) (at : ℕ) (q r : Scale) : Type 0 where
+  -- the telegram, and what is left of it
+  pub entries : List Entry
+  pub telegram : Telegram paper entries
+  pub same : take n (bitsOf s) ≡ bits entries
+  pub left : List Entry
+  pub along : Along s n t at left
+  -- the scales can tell it
+  pub tells : Tells (numberOf q) (numberOf r) left
+  -- and what is stored
+  pub laid : Laid (normal entries) n base out at (normalUnder (numberOf q) (numberOf r) left)
+
+module _ {s : List ℕ} {n : ℕ} {out : List ℕ} (f : Telling s n out) where
+  pub bits-all : n ≡ length (bits (f .entries))
+  bits-all = sym (length-take-le n (bitsOf s) (rw (length-bitsOf s) (f .within))) ∙ ap length (f .same)
+
+  pub normal-all : n ≡ length (bits (normal (f .entries)))
+  normal-all = bits-all ∙ sym (normal-size (f .entries))
+
+  -- before the first field
+  pub retelling-first : (q : Scale) → numberOf q ≡ 0
+      → Retelling s n (set out ((n - 1) / 8) 0) (set out ((n - 1) / 8) 0) (record { node = 1; left = 0; outer = 0 }) 0 q q
+  retelling-first q z =
+      record {
+        entries = f .entries;
+        telegram = f .telegram;
+        same = f .same;
+        left = f .entries;
+        along = along-first s n (f .telegram) (f .same) (f .within);
+        tells = tells-same (numberOf q) (f .entries) (fair (f .telegram));
+        laid =
+          subst (λ k. Laid (normal (f .entries)) n (set out ((n - 1) / 8) 0) (set out ((n - 1) / 8) 0) 0 (normalUnder k k (f .entries))) (sym z)
+          (laid-first out (normal-accepted paper (f .telegram)) normal-all (f .room));
+      }
+
+module _ {s : List ℕ} {n : ℕ} {base out : List ℕ} {t : Todo} {at : ℕ} {q r : Scale} (g : Retelling s n base out t at q r) where
+  abbrev o : Onward t at (g .left)
+  o = g .along .onward
+
+  abbrev v₀ : ℕ
+  v₀ = valueDue o
+
+  abbrev es₀ : List Entry
+  es₀ = restDue o
+
+  abbrev toldOn : Onward t at (normalUnder (numberOf q) (numberOf r) (g .left))
+  toldOn = told-onward o (numberOf q) (numberOf r) (g .tells)
+
+  tells-front : Tells (numberOf q) (numberOf r) (firstDue o ∷ es₀)
+  tells-front = subst (Tells (numberOf q) (numberOf r)) (held (o .run) .front) (g .tells)
+
+  fair-front : AllFair (firstDue o ∷ es₀)
+  fair-front = subst AllFair (held (o .run) .front) (fair (o .run))
+
+  first-width : firstDue o .field .width ≡ fieldAt (t .node) .width
+  first-width =
+      width-named (o .state .todo) v₀ ∙ ap (λ f. f .width) (ap due (o .todo) ∙ sym (due-right t (o .tidy)))
+
+  -- a distance that can be told is converted to what tells it
+  converts : (k : View) → view (firstDue o) es₀ ≡ k
+      → chooseT k (Tells (numberOf q) (numberOf r) es₀) Unit (Told (numberOf q) (numberOf r) (firstDue o) es₀ × Tells (numberOf q) (numberOf r) es₀)
+      → choose k v₀ (best v₀ es₀) (converted q r v₀) ≡ choose k v₀ (best v₀ es₀) (steps (numberOf r) (decimetres (numberOf q) v₀))
+  converts kept h x = refl
+  converts scales h x = refl
+  converts measures h x =
+      let c = x .0 .count in
+      let narrow : fieldAt (t .node) .width ≤ 20 = measures-narrow (t .node) v₀ es₀ (o .tidy .inside) (sym (view-due o) ∙ h) in
+      let fits : c < 2 ^ fieldAt (t .node) .width = subst (λ k. c < 2 ^ k) first-width (x .0 .small) in
+      let most : 2 ^ fieldAt (t .node) .width ≤ 2 ^ 20 = pow-mono narrow in
+      converted-told q r v₀ c (omega arith) (x .0 .exact) ∙ sym (told-steps (x .0))
+
+  -- the telegram in hand is any with these bits
+  normalised-by : (before : List ℕ) {after : List ℕ} → after ≡ bytesOver (accepted (normal (g .entries))) before → Normalised s n before after
+  normalised-by before h es tel e =
+      let one = bits-no-prefix paper tel (g .telegram) [] (append-nil (bits es) ∙ sym e ∙ g .same) in
+      h ∙ ap (λ (x : List Entry). bytesOver (accepted (normal x)) before) (sym (one .0))
+
+  -- a field is taken
+  module _ {w : ℕ} (ew : w ≡ fieldAt (t .node) .width) {found : Taken} (er : found ≡ takeAt s n w at)
+      {v : ℕ} {d : Cursor} (ed : found ≡ Field v d) where
+    due-value : v ≡ v₀
+    due-value = value-is (g .along) ew er ed
+
+    pub sendable : Sendable (t .node) v
+    sendable =
+        record {
+          small = subst (λ k. v < 2 ^ k) ew (rw due-value (small o ew));
+          known = λ es h. rw due-value (fair-front .0 .known (view-due o ∙ scale-still (fieldAt (t .node) .sense) v₀ v es es₀ h));
+        }
+
+    -- after the end mark the bytes are the normal form's
+    module _ {x : Ahead} (a : Advanced t v x) (m : x ≡ Mark) {wrote : Bool} {after : List ℕ} (p : Put out at w v wrote after) where
+      mark-kept : view (firstDue o) es₀ ≡ kept
+      mark-kept = named-view (o .state .todo) v₀ es₀ ∙ ap (λ i. viewOf (due i .sense) v₀ es₀) (at-end o ew due-value a m)
+
+      mark-value : v ≡ valueDue toldOn
+      mark-value =
+          due-value
+          ∙ sym (ap (λ k. choose k v₀ (best v₀ es₀) (steps (numberOf r) (decimetres (numberOf q) v₀))) mark-kept)
+          ∙ told-value o (numberOf q) (numberOf r) (g .tells)
+
+      mark-rest : restDue toldOn ≡ []
+      mark-rest =
+          told-rest o (numberOf q) (numberOf r) (g .tells)
+          ∙ ap (normalUnder (fromNext o (numberOf q) (numberOf r)) (toNext o (numberOf q) (numberOf r))) (nothing-left o ew due-value a m)
+          ∙ normal-none _ _
+
+      pub mark-size : (before : List ℕ) → base ≡ set before ((n - 1) / 8) 0 → length after ≡ length before
+      mark-size before e = same-size (g .laid) toldOn ew mark-value p before e
+
+      pub tells-all : (before : List ℕ) → Below 256 before → base ≡ set before ((n - 1) / 8) 0 → Normalised s n before after
+      tells-all before b e = normalised-by before (laid-whole (g .laid) toldOn ew mark-value p mark-rest before b e)
+
+    -- after another field the run goes on with the scales that hold then
+    module _ {x : Ahead} {u : Todo} (a : Advanced t v x) (m : x ≡ On u) where
+      pub along-then : Along s n u (d .at) es₀
+      along-then = along-next (g .along) ew er ed a m
+
+      module _ {y : Retold} (h : normaliser.Tells q r (t .node) v es₀ y) where
+        due-view : viewOf (fieldAt (t .node) .sense) v es₀ ≡ view (firstDue o) es₀
+        due-view = ap (λ z. viewOf (fieldAt (t .node) .sense) z es₀) due-value ∙ sym (view-due o)
+
+        from-is : numberOf (y .from) ≡ fromNext o (numberOf q) (numberOf r)
+        from-is = h .from ∙ ap₂ (λ k z. choose k (numberOf q) z (numberOf q)) due-view due-value
+
+        to-is : numberOf (y .to) ≡ toNext o (numberOf q) (numberOf r)
+        to-is = h .to ∙ ap₂ (λ k z. choose k (numberOf r) (best z es₀) (numberOf r)) due-view due-value
+
+        sent-is : y .value ≡ valueDue toldOn
+        sent-is =
+            h .value
+            ∙ ap₂ (λ k z. choose k z (best z es₀) (converted q r z)) due-view due-value
+            ∙ converts (view (firstDue o) es₀) refl tells-front
+            ∙ told-value o (numberOf q) (numberOf r) (g .tells)
+
+        module _ {wrote : Bool} {after : List ℕ} (p : Put out at w (y .value) wrote after) where
+          pub then-size : (before : List ℕ) → base ≡ set before ((n - 1) / 8) 0 → length after ≡ length before
+          then-size before e = same-size (g .laid) toldOn ew sent-is p before e
+
+          pub tells-on : Retelling s n base after u (d .at) (y .from) (y .to)
+          tells-on =
+              record {
+                entries = g .entries;
+                telegram = g .telegram;
+                same = g .same;
+                left = es₀;
+                along = along-then;
+                tells =
+                  rw (from-is, to-is)
+                  (tells-next paper (numberOf q) (numberOf r) (o .state) v₀ es₀ (fair-front .1) (view (firstDue o) es₀) tells-front);
+                laid =
+                  rw (from-is, to-is, next-at (g .along) ew er ed)
+                  (laid-on (g .laid) toldOn ew sent-is p (told-rest o (numberOf q) (numberOf r) (g .tells)));
+              }
