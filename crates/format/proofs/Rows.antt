@@ -4,11 +4,11 @@ use mathlib.Core.Path.{_≡_, refl, _∙_, subst, sym, ap}
 use mathlib.Core.Bool.{Bool, true, false, cond, _&&_}
 use mathlib.Core.List.{List, [], _∷_, map}
 use mathlib.Core.Option.{Option, some, none}
-use Prim.Native.Nat.{ℕ, zero, suc, _+_, _-_, _/_, _%_, _<_}
+use Prim.Native.Nat.{ℕ, zero, suc, _+_, _-_, _/_, _%_, _<_, _≤_}
 use native.Mathlib.Nat.{add-zero, zero-add, add-suc, suc-add, le-of-suc-le-suc, not-suc-le-zero}
 use native.Mathlib.Omega.{arith}
 use borrow.Author.Tests.{eq-eqb, lt-ltb}
-use lib.Dec.{T, eqb, eqb→eq, ltb, ltb→lt}
+use lib.Dec.{T, eqb, eqb→eq, leb, leb→le, ltb, ltb→lt}
 use lib.ListN.{length, getD, List·getD-map}
 use Rattle.format.specs.Fields.{Field, steers, NID-PACKET, NID-XUSER}
 use Rattle.format.specs.Packets.{Items, Packet, header, etcs, ctcs, find}
@@ -383,3 +383,16 @@ packet-width = code-width 7 8 tt
 pub direction-width : (k : ℕ) → k < 213 → codeOf (fieldAt k .sense) ≡ 9 → fieldAt k .width ≡ 2
 unfolding rows
 direction-width = code-width 9 2 tt
+
+-- a distance, of code 1 or 2, has at most 20 bits, and a text length 15
+pub distance-narrow : (k : ℕ) → k < 213 → 0 < codeOf (fieldAt k .sense) → codeOf (fieldAt k .sense) < 3 → fieldAt k .width ≤ 20
+unfolding rows
+distance-narrow k l a b =
+    leb→le _ _
+    (imp-use (ltb 0 (codeOf (fieldAt k .sense)) && ltb (codeOf (fieldAt k .sense)) 3) (leb (fieldAt k .width) 20)
+    (row-law (λ k r. imp (ltb 0 (codeOf (r .field .sense)) && ltb (codeOf (r .field .sense)) 3) (leb (r .field .width) 20)) tt k l)
+    (rw (lt-ltb 0 (codeOf (fieldAt k .sense)) a, lt-ltb (codeOf (fieldAt k .sense)) 3 b)))
+
+pub text-width : (k : ℕ) → k < 213 → codeOf (fieldAt k .sense) ≡ 2 → fieldAt k .width ≡ 15
+unfolding rows
+text-width = code-width 2 15 tt

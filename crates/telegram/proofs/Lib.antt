@@ -2,6 +2,7 @@
 pub mod Moves
 pub mod Places
 pub mod Senses
+pub mod Distances
 pub mod Noting
 pub mod Seen
 pub mod Stepping
