@@ -1,6 +1,6 @@
 -- How a field counts, by its code in the table, and steps of a scale told in steps of another. Assumes nothing.
-use mathlib.Core.Path.{_≡_, refl, _∙_, sym, ap}
-use mathlib.Core.Bool.{Bool, true, false, cond, _&&_}
+use mathlib.Core.Path.{_≡_, refl, _∙_, ap}
+use mathlib.Core.Bool.{Bool, true, false, cond}
 use mathlib.Core.List.{List}
 use Prim.Native.Nat.{ℕ, zero, suc, _*_, _/_, _%_, _^_, _<_, _≤_}
 use native.Mathlib.Omega.{arith}
@@ -21,7 +21,6 @@ use Rattle.distance.specs.declared.Scale.{Scale}
 use Rattle.distance.specs.declared.Scale.the-variants.{Tenths, Metres, Tens}
 use Rattle.distance.specs.declared.Scaled as scaled
 use Rattle.distance.specs.declared.Scaled.the-variants as scaling
-use Rattle.distance.specs.declared.Steps.{Steps}
 use Rattle.distance.specs.declared.Told.{Told}
 use Rattle.distance.specs.declared.Told.the-variants.{Whole, Not}
 use Rattle.telegram.specs.Machine.{senseOf}
@@ -45,14 +44,16 @@ module _ (f : Field) (v : ℕ) (es : List Entry) where
   unfolding senseOf
   view-distance e = view-coded 1 e
 
+  -- code 2 is a text length
   view-text : codeOf (f .sense) ≡ 2 → viewOf (f .sense) v es ≡ viewOf textLength v es
   unfolding senseOf
   view-text e = view-coded 2 e
 
-  -- code 2 is a distance too, unless it is unlimited
+  -- which is a distance unless it is unlimited
   pub view-limited : codeOf (f .sense) ≡ 2 → (v ≡ 32767 → ⊥) → viewOf (f .sense) v es ≡ measures
   view-limited e n = view-text e ∙ rw (ne-eqb v 32767 n)
 
+  -- and is sent as it is if it is unlimited
   pub view-unlimited : codeOf (f .sense) ≡ 2 → v ≡ 32767 → viewOf (f .sense) v es ≡ kept
   view-unlimited e h = view-text e ∙ rw (eq-eqb v 32767 h)
 
@@ -140,12 +141,13 @@ abbrev fitting : ℕ → Told → Bool
 fitting w (Whole u) = ltb (u .0) (2 ^ w)
 fitting w Not = false
 
+-- 20 bits of steps are metres that 32 bits hold
 steps-small : (q : Scale) (v : ℕ) → v < 1048576 → inDecimetres q v / 10 ^ 1 < 2 ^ 32
 steps-small Tenths v h = omega arith
 steps-small Metres v h = omega arith
 steps-small Tens v h = omega arith
 
--- that is the test of whole metres
+-- what is told in metres fits w bits just if it is a whole number of metres that does
 pub metres-told : (q : Scale) (v w : ℕ) (t : Told) → v < 1048576 → t ≡ inSteps Metres (inDecimetres q v) → fitting w t ≡ inMetres q v w
 metres-told q v w t h e = ap (fitting w) e ∙ by-test (eqb (inDecimetres q v % 10 ^ 1) 0) refl
   where

@@ -2,6 +2,7 @@
 pub mod Moves
 pub mod Places
 pub mod Senses
+pub mod Distances
 pub mod Noting
 pub mod Seen
 pub mod Stepping
@@ -14,7 +15,6 @@ pub mod Taking
 pub mod Filling
 pub mod Laying
 pub mod Storing
-pub mod Distances
 pub mod Telling
 pub mod Checking
 pub mod Writing

@@ -66,7 +66,7 @@ abbrev pub Viewed : ℕ → ℕ → View → Type 0
 Viewed k v r = (es : List Entry) → viewOf (fieldAt k .sense) v es ≡ viewIs r
 
 -- v steps of the scale q in steps of the scale r; v itself where they are no whole number of these
-abbrev wholeOr : ℕ → distances.Told → ℕ
+abbrev pub wholeOr : ℕ → distances.Told → ℕ
 wholeOr v (Whole u) = u .0
 wholeOr v Not = v
 

@@ -88,7 +88,17 @@ fn tell(s: &[u8], n: usize, out: &mut [u8])
 }
 
 // What is sent for the value v of row k, before what u says is to be sent from the cursor on.
-fn retell(rows: &[u32; 213], s: &[u8], n: usize, k: usize, v: u64, u: Todo, next: Cursor, from: Scale, to: Scale) -> Retold
+fn retell(
+    rows: &[u32; 213],
+    s: &[u8],
+    n: usize,
+    k: usize,
+    v: u64,
+    u: Todo,
+    next: Cursor,
+    from: Scale,
+    to: Scale,
+) -> Retold
     requires { ⌜ InTable (now rows) k × Sendable k v × Some (now s) n u (next .at) ⌝ }
     ensures { λ r. ⌜ Whichever (now (s .entry)) n u (next .at) (λ es. Tells from to k v es r) ⌝ }
 {
