@@ -1,11 +1,12 @@
 -- How a field counts, by its code in the table, and steps of a scale told in steps of another. Assumes nothing.
 use mathlib.Core.Path.{_≡_, refl, _∙_, ap}
 use mathlib.Core.Bool.{Bool, true, false, cond}
-use mathlib.Core.List.{List}
+use mathlib.Core.List.{List, []}
 use Prim.Native.Nat.{ℕ, zero, suc, _*_, _/_, _%_, _^_, _<_, _≤_}
 use native.Mathlib.Omega.{arith}
 use borrow.Author.Tests.{eq-eqb, ne-eqb, lt-ltb}
 use lib.Dec.{eqb, ltb}
+use lib.Pow.{pow-mono}
 use Rattle.format.specs.Fields.{Field, Sense, NID-PACKET, END}
 use Rattle.format.specs.Fields.Sense.{plain, scale, distance, textLength}
 use Rattle.format.specs.Normal.{viewOf}
@@ -19,13 +20,13 @@ use Rattle.format.proofs.Rows.{distance-narrow, text-width}
 use Rattle.distance.specs.Distance.{numberOf, scaledBy, inDecimetres, inSteps}
 use Rattle.distance.specs.declared.Scale.{Scale}
 use Rattle.distance.specs.declared.Scale.the-variants.{Tenths, Metres, Tens}
-use Rattle.distance.specs.declared.Scaled as scaled
-use Rattle.distance.specs.declared.Scaled.the-variants as scaling
 use Rattle.distance.specs.declared.Told.{Told}
 use Rattle.distance.specs.declared.Told.the-variants.{Whole, Not}
 use Rattle.telegram.specs.Machine.{senseOf}
 use Rattle.telegram.specs.Normaliser.{converted, inMetres}
 use Rattle.telegram.proofs.Senses.{sense-is}
+use Rattle.distance.specs.declared.Scaled as scaled
+use Rattle.distance.specs.declared.Scaled.the-variants as scaling
 
 -- ---- how a field counts, by its code
 
@@ -89,6 +90,13 @@ measures-code textLength v es h = (omega arith, omega arith)
 -- a distance has at most 20 bits
 pub measures-narrow : (k v : ℕ) (es : List Entry) → k < 213 → viewOf (fieldAt k .sense) v es ≡ measures → fieldAt k .width ≤ 20
 measures-narrow k v es l h = let c = measures-code (fieldAt k .sense) v es h in distance-narrow k l (c .0) (c .1)
+
+-- so that its value has
+pub distance-small : (k v w : ℕ) → k < 213 → w ≡ fieldAt k .width → v < 2 ^ w → viewOf (fieldAt k .sense) v [] ≡ measures → v < 1048576
+distance-small k v w l e h m =
+    let n : w ≤ 20 = rw e (measures-narrow k v [] l m) in
+    let p : 2 ^ w ≤ 2 ^ 20 = pow-mono n in
+    omega arith
 
 -- a text length has at most 15
 pub text-narrow : (k : ℕ) → k < 213 → fieldAt k .sense ≡ textLength → fieldAt k .width ≤ 15

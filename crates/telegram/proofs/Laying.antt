@@ -211,8 +211,8 @@ module _ {es : List Entry} {n : ℕ} {base out : List ℕ} {at : ℕ} {left : Li
         telegram = g .telegram;
         size = g .size;
         holds =
-          holds-after
-          ∙ ap₂ (λ (l : List ℕ) (r : List Entry). stored l (bits r) (at + w)) (sym bits-after) m;
+            holds-after
+            ∙ ap₂ (λ (l : List ℕ) (r : List Entry). stored l (bits r) (at + w)) (sym bits-after) m;
         keeps = length-after;
         room = g .room;
       }

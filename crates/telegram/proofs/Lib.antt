@@ -15,9 +15,12 @@ pub mod Taking
 pub mod Filling
 pub mod Laying
 pub mod Storing
+pub mod Retelling
 pub mod Telling
+pub mod Deciding
 pub mod Checking
 pub mod Writing
+pub mod Normalising
 pub mod Answers
 pub mod Once
 pub mod Cheats

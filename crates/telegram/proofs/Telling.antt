@@ -2,9 +2,9 @@
 use mathlib.Core.Bool.{Bool}
 use mathlib.Core.Path.{_≡_, refl, sym, ap, ap₂, _∙_, subst}
 use mathlib.Core.List.{List, [], _∷_, append-nil}
-use Prim.Native.Nat.{ℕ, _+_, _-_, _*_, _/_, _^_, _<_, _≤_}
+use Prim.Native.Nat.{ℕ, _-_, _/_, _^_, _<_, _≤_}
 use native.Mathlib.Omega.{arith}
-use lib.ListN.{length, take, drop, set}
+use lib.ListN.{length, take, set}
 use lib.Seq.{length-take-le}
 use lib.Pow.{pow-mono}
 use Rattle.bits.specs.Bits.{bitsOf, Below}
@@ -23,12 +23,12 @@ use Rattle.format.specs.Packets.Items.{end}
 use Rattle.laws.proofs.Sources.{width-named}
 use Rattle.laws.proofs.Exchange.{scale-still}
 use Rattle.format.specs.Table.{fieldAt}
-use Rattle.format.specs.Telegrams.{Entry, entry, bits, Telegram, Run}
+use Rattle.format.specs.Telegrams.{Entry, entry, bits, Telegram}
 use Rattle.format.specs.Telegrams.Result.{accepted}
 use Rattle.laws.proofs.Demand3.{normal-accepted, normal-size}
 use Rattle.laws.proofs.Kept.{run-normal, tells-next}
 use Rattle.laws.proofs.Prefix.{bits-no-prefix}
-use Rattle.laws.proofs.Told.{Fair, AllFair, fair, Told, told-steps, Tells, chooseT, tells-same, tells-best}
+use Rattle.laws.proofs.Told.{AllFair, fair, Told, told-steps, Tells, chooseT, tells-same}
 use Rattle.laws.proofs.Views.{normal-none}
 use Rattle.telegram.specs.Along.{Onward, Along}
 use Rattle.telegram.specs.Machine.{Advanced}
@@ -133,8 +133,8 @@ module _ {s : List ℕ} {n : ℕ} {out : List ℕ} (f : Telling s n out) where
         along = along-first s n (f .telegram) (f .same) (f .within);
         tells = tells-same (numberOf q) (f .entries) (fair (f .telegram));
         laid =
-          subst (λ k. Laid (normal (f .entries)) n (set out ((n - 1) / 8) 0) (set out ((n - 1) / 8) 0) 0 (normalUnder k k (f .entries))) (sym z)
-          (laid-first out (normal-accepted paper (f .telegram)) normal-all (f .room));
+            subst (λ k. Laid (normal (f .entries)) n (set out ((n - 1) / 8) 0) (set out ((n - 1) / 8) 0) 0 (normalUnder k k (f .entries))) (sym z)
+            (laid-first out (normal-accepted paper (f .telegram)) normal-all (f .room));
       }
 
 module _ {s : List ℕ} {n : ℕ} {base out : List ℕ} {t : Todo} {at : ℕ} {q r : Scale} (g : Retelling s n base out t at q r) where
@@ -250,9 +250,9 @@ module _ {s : List ℕ} {n : ℕ} {base out : List ℕ} {t : Todo} {at : ℕ} {q
                 left = es₀;
                 along = along-then;
                 tells =
-                  rw (from-is, to-is)
-                  (tells-next paper (numberOf q) (numberOf r) (o .state) v₀ es₀ (fair-front .1) (view (firstDue o) es₀) tells-front);
+                    rw (from-is, to-is)
+                    (tells-next paper (numberOf q) (numberOf r) (o .state) v₀ es₀ (fair-front .1) (view (firstDue o) es₀) tells-front);
                 laid =
-                  rw (from-is, to-is, next-at (g .along) ew er ed)
-                  (laid-on (g .laid) toldOn ew sent-is p (told-rest o (numberOf q) (numberOf r) (g .tells)));
+                    rw (from-is, to-is, next-at (g .along) ew er ed)
+                    (laid-on (g .laid) toldOn ew sent-is p (told-rest o (numberOf q) (numberOf r) (g .tells)));
               }

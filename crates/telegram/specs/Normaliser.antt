@@ -6,7 +6,6 @@ use Prim.Native.Nat.{ℕ, _*_, _%_, _^_, _<_, _≤_}
 use lib.Dec.{eqb, leb, ltb}
 use lib.ListN.{length, take}
 use Rattle.bits.specs.Bits.{bitsOf}
-use Rattle.format.specs.Fields.{Sense}
 use Rattle.format.specs.Normal.{viewOf, choose, decimetres, steps, best, normal}
 use Rattle.format.specs.Normal.View.{kept, scales, measures}
 use Rattle.format.specs.Rules.{Terms, paper}
@@ -17,13 +16,15 @@ use Rattle.format.specs.declared.Kind.the-variants.{Room}
 use Rattle.format.specs.declared.Answer.{Answer}
 use Rattle.distance.specs.Distance.{numberOf, inDecimetres, inSteps}
 use Rattle.distance.specs.declared.Scale.{Scale}
-use Rattle.distance.specs.declared.Told as distances
 use Rattle.distance.specs.declared.Told.the-variants.{Whole, Not}
 use Rattle.telegram.specs.Reader.{checked, atOnce}
 use Rattle.telegram.specs.Writer.{sizeOf, bytesOver}
 use Rattle.telegram.specs.declared.views.View.{View}
 use Rattle.telegram.specs.declared.views.View.the-variants.{Kept, Scales, Measures}
+use Rattle.telegram.specs.declared.normaliser.Look.{Look}
+use Rattle.telegram.specs.declared.normaliser.Look.the-variants.{Passes, Fails, Ends}
 use Rattle.telegram.specs.declared.normaliser.Retold.{Retold}
+use Rattle.distance.specs.declared.Told as distances
 use Rattle.format.specs.Normal as normals
 
 -- the normal form of what is accepted; "the reader's refusals"
@@ -76,6 +77,15 @@ converted q r v = wholeOr v (inSteps r (inDecimetres q v))
 -- "a whole number of metres that fits its field"
 abbrev pub inMetres : Scale → ℕ → ℕ → Bool
 inMetres q v w = eqb (decimetres (numberOf q) v % 10) 0 && ltb (steps 1 (decimetres (numberOf q) v)) (2 ^ w)
+
+-- what a value says to telling the distances up to the next scale in metres
+abbrev pub lookOf : normals.View → Bool → Look
+lookOf kept b = Passes
+lookOf scales b = Ends
+lookOf measures b = cond b Passes Fails
+
+abbrev pub Looked : Scale → ℕ → ℕ → ℕ → Look → Type 0
+Looked q k v w r = (es : List Entry) → r ≡ lookOf (viewOf (fieldAt k .sense) v es) (inMetres q v w)
 
 -- what is sent for v in row k, with the entries es behind it, and the scales after it
 pub record Tells (q r : Scale) (k v : ℕ) (es : List Entry) (x : Retold) : Type 0 where

@@ -3,14 +3,14 @@
 // A refusal changes no output, so normalising checks first, and tells in a second run, which follows the rows alone. At a scale the run
 // looks ahead, up to the next one, whether every distance is a whole number of metres that fits its field.
 ghost use mathlib.Core.Path.{_≡_};
-ghost use Prim.Native.Nat.{_<_, _≤_};
+ghost use Prim.Native.Nat.{_^_, _<_, _≤_};
 ghost use Rattle.distance.specs.Distance.{numberOf};
 ghost use Rattle.format.specs.Normal.{metric};
 ghost use Rattle.format.specs.Rules.{paper};
-ghost use Rattle.format.specs.Table.{words};
+ghost use Rattle.format.specs.Table.{words, fieldAt};
 ghost use Rattle.telegram.specs.Along.{Some, Whichever};
 ghost use Rattle.telegram.specs.Machine.{InTable};
-ghost use Rattle.telegram.specs.Normaliser.{Normalise, Telling, Normalised, converted, inMetres, Rescaled, Tells, Sendable};
+ghost use Rattle.telegram.specs.Normaliser.{Normalise, Telling, Normalised, converted, inMetres, Rescaled, Tells, Sendable, Looked};
 use crate::answer::refuse;
 use crate::reader::check;
 use crate::rows::width;
@@ -34,6 +34,14 @@ pub struct Retold {
     pub value: u64,
     pub from: Scale,
     pub to: Scale,
+}
+
+// What a field says to telling the distances up to the next scale in metres: nothing against it, that it cannot be, or that the next
+// scale is here.
+pub enum Look {
+    Passes,
+    Fails,
+    Ends,
 }
 
 // Writes the normal form of a telegram into out, and answers its n. A refusal leaves out as it was.
@@ -156,15 +164,13 @@ fn metric(rows: &[u32; 213], s: &[u8], n: usize, q: Scale, first: Todo, start: C
         let Taken::Field(v, next) = c.take(s, n, w) else {
             return true;
         };
-        match counts(rows, k, v) {
-            View::Kept => {}
-            View::Scales => {
-                return true;
+        match looked(rows, q, k, v, w) {
+            Look::Passes => {}
+            Look::Fails => {
+                return false;
             }
-            View::Measures => {
-                if !in_metres(q, v, w) {
-                    return false;
-                }
+            Look::Ends => {
+                return true;
             }
         }
         let Ahead::On(u) = advance(rows, t, v) else {
@@ -172,6 +178,24 @@ fn metric(rows: &[u32; 213], s: &[u8], n: usize, q: Scale, first: Todo, start: C
         };
         t = u;
         c = next;
+    }
+}
+
+// What the value v of row k says to that.
+fn looked(rows: &[u32; 213], q: Scale, k: usize, v: u64, w: usize) -> Look
+    requires { ⌜ InTable (now rows) k × (w ≡ fieldAt k .width) × (v < 2 ^ w) ⌝ }
+    ensures { λ r. ⌜ Looked q k v w r ⌝ }
+{
+    match counts(rows, k, v) {
+        View::Kept => Look::Passes,
+        View::Scales => Look::Ends,
+        View::Measures => {
+            if in_metres(q, v, w) {
+                Look::Passes
+            } else {
+                Look::Fails
+            }
+        }
     }
 }
 
