@@ -18,3 +18,4 @@ pub mod Answers
 pub mod Once
 pub mod Cheats
 pub mod WriterCheats
+pub mod NormalCheats
