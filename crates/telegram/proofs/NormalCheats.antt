@@ -3,19 +3,23 @@
 use mathlib.Core.List.{List, [], _∷_, _++_}
 use mathlib.Core.Logic.{_≢_}
 use mathlib.Core.Path.{_≡_, refl, sym, ap, _∙_}
-use Prim.Native.Nat.{ℕ}
+use Prim.Native.Nat.{ℕ, _+_, _-_}
 use native.Mathlib.Omega.{arith}
-use lib.ListN.{length, drop, getD, replicate}
+use lib.ListN.{length, take, drop, getD, replicate}
+use lib.Seq.{take-add}
 use Rattle.bits.specs.Bits.{digits, valueOf, bitsOf, bytesOf, packed, filled}
 use Rattle.format.specs.Normal.{metric, normalUnder}
 use Rattle.format.specs.Packets.{_⧺_, times, header, etcs, ctcs, find}
 use Rattle.format.specs.Rules.{begun, next, misdirected, broken, noted, closes, settled, onward, step, radioFrom, packetPlace, among, sameAsEarlier, paper}
-use Rattle.format.specs.Telegrams.{Result, read, fromBits, drive, bitsIn}
+use Rattle.format.specs.Telegrams.{Entry, Result, read, fromBits, drive, bitsIn}
+use Rattle.format.specs.Telegrams.Result.{accepted, refused}
 use Rattle.format.specs.declared.Answer.{Answer}
 use Rattle.format.specs.declared.Answer.the-variants.{Accepted}
+use Rattle.laws.proofs.Prefix.{bits-no-prefix}
 use Rattle.telegram.specs.Reader.{checked}
 use Rattle.telegram.specs.Writer.{sizeOf, bytesOver}
-use Rattle.telegram.specs.Normaliser.{normaliseInto, Normalise}
+use Rattle.telegram.specs.Normaliser.{normalOf, normaliseInto, Normalise}
+use Rattle.telegram.proofs.Answers.{sized-is, check-judges}
 
 -- bytes enough, all 0
 abbrev lent : List ℕ
@@ -53,6 +57,10 @@ tens-become : bytesOver (normaliseInto paper tens 137 104) lent ≡ over metres
 unfolding computed bitsIn bytesOf packed filled
 tens-become = refl
 
+tens-normal : bytesOver (normalOf (checked paper tens 137)) lent ≡ over metres
+unfolding computed bitsIn bytesOf packed filled
+tens-normal = refl
+
 metres-stay : bytesOver (normaliseInto paper metres 137 104) lent ≡ over metres
 unfolding computed bitsIn bytesOf packed filled
 metres-stay = refl
@@ -61,13 +69,46 @@ tenths-stay : bytesOver (normaliseInto paper tenths 137 104) lent ≡ over tenth
 unfolding computed bitsIn bytesOf packed filled
 tenths-stay = refl
 
+-- an honest one meets the promise there
+pub honest : Normalise paper tens 137 lent (Accepted 137) (over metres)
+honest = record { answers = sym answer; contents = sym tens-become }
+
 -- ---- one that copies its input
 
--- whatever it answers
-pub copies : (a : Answer) → Normalise paper tens 137 lent a (over tens) → ⊥
-copies a h =
-    let z : _≡_ {A = ℕ} 0x40 0x20 = ap (λ (l : List ℕ). getD l 12 0) (h .contents ∙ tens-become) in
+abbrev entriesIn : Result → List Entry
+entriesIn (accepted es) = es
+entriesIn (refused r) = []
+
+tens-accepted : checked paper tens 137 ≡ accepted (entriesIn (checked paper tens 137))
+unfolding computed
+tens-accepted = refl
+
+-- no other n is accepted with these bytes: 137 of their bits are a telegram, and no telegram begins another
+same-entries : (n : ℕ) (es : List Entry) → checked paper tens n ≡ accepted es → checked paper tens 137 ≡ checked paper tens n
+same-entries n es h =
+    let fs = entriesIn (checked paper tens 137) in
+    let a = check-judges paper tens 137 .accepts fs .0 tens-accepted in
+    let b = check-judges paper tens n .accepts es .0 h in
+    let z = sized-is tens n .0 (b .size) .2 in
+    let k : 137 + (n - 137) ≡ n = omega arith in
+    let longer : take n (bitsOf tens) ≡ take 137 (bitsOf tens) ++ take (n - 137) (drop 137 (bitsOf tens)) =
+    ap (λ (j : ℕ). take j (bitsOf tens)) (sym k) ∙ take-add 137 (n - 137) (bitsOf tens) in
+    let e = bits-no-prefix paper (a .telegram) (b .telegram) (take (n - 137) (drop 137 (bitsOf tens))) (rw (← a .is) (sym longer ∙ b .is)) .0 in
+    tens-accepted ∙ ap accepted e ∙ sym h
+
+copied : (n : ℕ) (r : Result) → checked paper tens n ≡ r → over tens ≡ bytesOver (normalOf r) lent → ⊥
+copied n (refused r) e h =
+    let z : _≡_ {A = ℕ} 0x90 0 = ap (λ (l : List ℕ). getD l 0 0) h in
     omega arith
+copied n (accepted es) e h =
+    let z : _≡_ {A = ℕ} 0x40 0x20 =
+    ap (λ (l : List ℕ). getD l 12 0) (h ∙ ap (λ (r : Result). bytesOver (normalOf r) lent) (sym e ∙ sym (same-entries n es e)) ∙ tens-normal) in
+    omega arith
+
+-- whatever n it is given with these bytes, and whatever it answers
+pub copies : (n : ℕ) (a : Answer) → Normalise paper tens n lent a (over tens) → ⊥
+unfolding normaliseInto
+copies n a h = copied n (checked paper tens n) refl (h .contents)
 
 -- ---- one that leaves two different contents for two telegrams that say the same
 
