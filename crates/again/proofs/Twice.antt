@@ -40,7 +40,7 @@ zeros-below (suc m) = (omega arith, zeros-below m)
 
 -- bytes that are accepted are the bytes of their entries
 module _ (p : Terms) (s : List ℕ) (n : ℕ) (es : List Entry) (a : Sound p s n es) where
-  sent : length (bits es) ≡ n
+  pub sent : length (bits es) ≡ n
   sent =
       let z = sized-is s n .0 (a .size) in
       sym (ap length (a .is)) ∙ length-take-le n (bitsOf s) (rw (length-bitsOf s) (omega arith))
@@ -62,10 +62,10 @@ module _ (p : Terms) (es : List Entry) (t : Telegram p es) (n : ℕ) (e : n ≡ 
   most : n ≤ 830
   most = let r = room p t in let l = long in omega arith
 
-  bytes-long : length (bytesOf (bits es)) ≡ bytesFor n
+  pub bytes-long : length (bytesOf (bits es)) ≡ bytesFor n
   bytes-long = length-bytesOf (bits es) ∙ ap bytesFor long
 
-  sound : Sound p (bytesOf (bits es)) n es
+  pub sound : Sound p (bytesOf (bits es)) n es
   sound =
       let l = long in
       let i = tiled p t .all in

@@ -1,2 +1,3 @@
--- What reading and writing one after the other promise.
+-- What reading and writing one after the other promise, and what normalising twice does.
 pub mod Again
+pub mod Normals

@@ -1,8 +1,10 @@
 // Demand 2, by the promises of `telegram` alone: what is read and written again is the same telegram; what is written and read again
-// is the same list of values.
+// is the same list of values. Demand 3 is in `normals`.
 ghost use Rattle.format.specs.Rules.{paper};
 ghost use Rattle.again.specs.Again.{Rewritten, Reread};
 use format::Answer;
+
+pub mod normals;
 
 // Reads the telegram s of n bits into run, and writes what was read into out: n, and s again. The reader's refusal leaves both as they
 // were, and the writer, which refuses only where out is too short, leaves out as it was.

@@ -1,4 +1,5 @@
--- Document 01, "Worked telegrams", the proved group: one table of claims about the definitions. Definitions alone.
+-- Document 01, "Worked telegrams", the proved group, and what it says of scales beside it: one table of claims about the definitions.
+-- Definitions alone.
 use mathlib.Core.Bool.{Bool, true, false, not, _&&_}
 use mathlib.Core.List.{List, [], _∷_, _++_}
 use Prim.Native.Nat.{ℕ, zero, suc, _+_}
@@ -9,6 +10,7 @@ use Rattle.format.specs.Rules.{paper}
 use Rattle.format.specs.Telegrams.{Result, bits, values, bitCount, write}
 use Rattle.format.specs.Telegrams.Result.{accepted, refused}
 use Rattle.telegram.specs.Reader.{checked}
+use Rattle.telegram.specs.Normaliser.{normalOf}
 
 -- What a case claims: of bytes and n, or of values that follow the header of case 1 and are followed by the end mark.
 pub data Claim : Type 0 where
@@ -24,13 +26,18 @@ pub data Claim : Type 0 where
   differ : List ℕ → List ℕ → Claim
   -- the values are refused, with this number and place
   breaks : List ℕ → ℕ → ℕ → Claim
+  -- of two lists of values the first is accepted, and its normal form has the second
+  becomes : List ℕ → List ℕ → Claim
 
 -- "Header 1,16,0,0,1,0,255,9,3007,1"
 abbrev pub head : List ℕ
 head = 1 ∷ 16 ∷ 0 ∷ 0 ∷ 1 ∷ 0 ∷ 255 ∷ 9 ∷ 3007 ∷ 1 ∷ []
 
+abbrev pub whole : List ℕ → List ℕ
+whole vs = head ++ (vs ++ (255 ∷ []))
+
 abbrev pub written : List ℕ → Result
-written vs = write paper (head ++ (vs ++ (255 ∷ [])))
+written vs = write paper (whole vs)
 
 abbrev pub bitsOr0 : Result → ℕ
 bitsOr0 (accepted es) = bitCount es
@@ -59,6 +66,7 @@ holds (takes vs n) = eqb (bitsOr0 (written vs)) (50 + n + 8)
 holds (fills vs n) = eqb (bitsOr0 (written vs)) n
 holds (differ us vs) = bothDiffer (written us) (written vs)
 holds (breaks vs number place) = same (told (written vs)) (number ∷ place ∷ [])
+holds (becomes us vs) = same (told (normalOf (written us))) (0 ∷ length (whole vs) ∷ whole vs)
 
 abbrev pub hold : List Claim → Bool
 hold [] = true
@@ -94,6 +102,18 @@ stop132 = 132 ∷ 1 ∷ 24 ∷ 0 ∷ []
 abbrev stop137 : List ℕ
 stop137 = 137 ∷ 1 ∷ 24 ∷ 0 ∷ []
 
+-- ETCS-44 with CTCS-3: Q_SCALE, D_STARTREVERSE, L_REVERSEAREA
+abbrev reversing : ℕ → ℕ → ℕ → List ℕ
+reversing q d l = 44 ∷ 1 ∷ 79 ∷ 3 ∷ 1 ∷ 56 ∷ q ∷ d ∷ l ∷ []
+
+-- ETCS-79, one group: Q_SCALE, M_POSITION
+abbrev position : ℕ → ℕ → List ℕ
+position q m = 79 ∷ 1 ∷ 81 ∷ q ∷ 0 ∷ 8 ∷ 0 ∷ 0 ∷ m ∷ 0 ∷ []
+
+-- ETCS-72, both levels 5, no text byte: Q_SCALE, D_TEXTDISPLAY, L_TEXTDISPLAY
+abbrev text : ℕ → ℕ → ℕ → List ℕ
+text q d l = 72 ∷ 1 ∷ 92 ∷ q ∷ 0 ∷ 0 ∷ d ∷ 15 ∷ 5 ∷ l ∷ 1023 ∷ 15 ∷ 5 ∷ 2 ∷ 0 ∷ []
+
 unfoldable pub cases : List Claim
 cases =
     -- 1. The header and the end mark: 58 bits, 11 values
@@ -125,4 +145,15 @@ cases =
     ∷ takes (call 0x8614970020002FFF) 113
     ∷ differ (call 0x08614970020002FF) (call 0x8614970020002FFF)
     ∷ breaks (call 0x0861497002000FF2) 7 50
+    -- 8. CTCS-3 at 10 m, 50 and 400, becomes 1 m, 500 and 4000; at 10 cm, 200 and 1005, it stays
+    ∷ becomes (reversing 2 50 400) (reversing 1 500 4000)
+    ∷ becomes (reversing 0 200 1005) (reversing 0 200 1005)
+    -- CTCS-3 at 10 m: 3276 becomes 32760, 3277 stays
+    ∷ becomes (reversing 2 3276 0) (reversing 1 32760 0)
+    ∷ becomes (reversing 2 3277 0) (reversing 2 3277 0)
+    -- ETCS-79 at 10 m: M_POSITION 104857 becomes 1048570, 104858 stays (offsets 0)
+    ∷ becomes (position 2 104857) (position 1 1048570)
+    ∷ becomes (position 2 104858) (position 2 104858)
+    -- Text length 32767 at 10 m, distance 5: scale 1, 32767, 50
+    ∷ becomes (text 2 5 32767) (text 1 50 32767)
     ∷ []

@@ -25,3 +25,4 @@ pub mod Answers
 pub mod Once
 pub mod Cheats
 pub mod WriterCheats
+pub mod NormalCheats

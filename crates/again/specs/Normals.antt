@@ -1,0 +1,54 @@
+-- Demand 3: "A normal form is itself accepted .. and normalising it again changes nothing"; two accepted telegrams "say the same ..
+-- exactly when their normal forms have the same bits". Definitions alone.
+use mathlib.Core.Bool.{Bool, true, false, cond, _&&_}
+use mathlib.Core.List.{List, [], _∷_}
+use mathlib.Core.Path.{_≡_}
+use Prim.Native.Nat.{ℕ}
+use lib.Dec.{eqb, leb}
+use lib.ListN.{length}
+use Rattle.format.specs.Rules.{Terms}
+use Rattle.format.specs.Telegrams.{Result, bits}
+use Rattle.format.specs.Telegrams.Result.{accepted, refused}
+use Rattle.format.specs.declared.Answer.{Answer}
+use Rattle.telegram.specs.Writer.{bytesOver}
+use Rattle.telegram.specs.Normaliser.{normaliseInto}
+use Rattle.again.specs.Again.{againOf}
+use Rattle.again.specs.declared.normals.Alike.{Alike}
+use Rattle.again.specs.declared.normals.Alike.the-variants.{Same, Other, First, Second}
+
+-- ---- normalised, and normalised again
+
+-- what the second leaves: what the first left, in at least 104 lent bytes
+abbrev pub againIn : Result → List ℕ → List ℕ
+againIn r before = cond (leb 104 (length before)) (bytesOver r before) before
+
+-- the promise of `renormalised`: the same normal form in front of what x held and of what y held, and the n that came in
+pub record Renormalised (p : Terms) (s : List ℕ) (n : ℕ) (x y : List ℕ) (answer : Answer) (x-after y-after : List ℕ) : Type 0 where
+  pub answers : answer ≡ againOf (normaliseInto p s n (length x)) 104 (length y) n
+  pub once : x-after ≡ bytesOver (normaliseInto p s n (length x)) x
+  pub twice : y-after ≡ againIn (normaliseInto p s n (length x)) y
+
+-- ---- two normal forms compared
+
+abbrev pub same : List ℕ → List ℕ → Bool
+same [] [] = true
+same [] (c ∷ cs) = false
+same (b ∷ bs) [] = false
+same (b ∷ bs) (c ∷ cs) = eqb b c && same bs cs
+
+-- by the two normal forms, or their refusals
+abbrev pub alike : Result → Result → Alike
+alike (accepted es) (accepted fs) = cond (same (bits es) (bits fs)) Same Other
+alike (accepted es) (refused r) = Second r
+alike (refused r) b = First r
+
+-- what the second leaves; nothing, where the first is refused
+abbrev pub afterFirst : Result → Result → List ℕ → List ℕ
+afterFirst (accepted es) b before = bytesOver b before
+afterFirst (refused r) b before = before
+
+-- the promise of `says_same`
+pub record SaysSame (p : Terms) (s : List ℕ) (n : ℕ) (t : List ℕ) (m : ℕ) (x y : List ℕ) (answer : Alike) (x-after y-after : List ℕ) : Type 0 where
+  pub answers : answer ≡ alike (normaliseInto p s n (length x)) (normaliseInto p t m (length y))
+  pub first : x-after ≡ bytesOver (normaliseInto p s n (length x)) x
+  pub second : y-after ≡ afterFirst (normaliseInto p s n (length x)) (normaliseInto p t m (length y)) y
