@@ -14,7 +14,7 @@ pub enum Scale {
 // So many steps of a scale.
 pub struct Steps(u32);
 
-// So many decimetres.
+// So many decimetres. No function makes them of a number or gives their number: they come of steps at a scale, and go back to steps.
 pub struct Decimetres(u64);
 
 // The scale that a Q_SCALE is, if it is one.
@@ -70,18 +70,6 @@ impl Steps {
 }
 
 impl Decimetres {
-    pub fn new(number: u64) -> Self
-        ensures { λ r. ⌜ r .0 ≡ number ⌝ }
-    {
-        Decimetres(number)
-    }
-
-    pub fn number(self) -> u64
-        ensures { λ r. ⌜ r ≡ self .0 ⌝ }
-    {
-        self.0
-    }
-
     // How many steps of a packet's scale these decimetres are. Not, where that is no whole number or is too large.
     pub fn steps(self, q: Scale) -> Told
         ensures { λ r. ⌜ r ≡ inSteps q (self .0) ⌝ }
