@@ -19,3 +19,4 @@ pub mod Same
 pub mod LeftOut
 pub mod Demand3
 pub mod Metres
+pub mod Bounds

@@ -1,0 +1,3 @@
+-- What the functions for C answer.
+pub mod Codes
+pub mod Examples
