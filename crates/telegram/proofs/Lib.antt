@@ -1,5 +1,6 @@
 -- What the code stands on, by what it is about.
 pub mod Moves
+pub mod Advancing
 pub mod Places
 pub mod Senses
 pub mod Distances

@@ -93,7 +93,7 @@ fn turned(rows: &[u32; 213], t: Todo) -> Todo
 }
 
 // What is to be sent after the field that is due holds v. No group holds two others, so that two turns are enough.
-pub(crate) fn advance(rows: &[u32; 213], t: Todo, v: u64) -> Ahead
+fn further(rows: &[u32; 213], t: Todo, v: u64) -> Ahead
     requires { ⌜ InTable (now rows) (t .node) × Tidy t ⌝ }
     ensures { λ r. ⌜ Advanced t v r ⌝ }
 {
@@ -121,4 +121,23 @@ pub(crate) fn advance(rows: &[u32; 213], t: Todo, v: u64) -> Ahead
         });
     }
     Ahead::On(turned(rows, turned(rows, moved(rows, t, v))))
+}
+
+// The same, with no more ado where the field steers nothing and another follows it, as most do.
+pub(crate) fn advance(rows: &[u32; 213], t: Todo, v: u64) -> Ahead
+    requires { ⌜ InTable (now rows) (t .node) × Tidy t ⌝ }
+    ensures { λ r. ⌜ Advanced t v r ⌝ }
+{
+    let k = t.node;
+    if act(rows, k) != SEND {
+        return further(rows, t, v);
+    }
+    if act(rows, k + 1) == END {
+        return further(rows, t, v);
+    }
+    Ahead::On(Todo {
+        node: k + 1,
+        left: t.left,
+        outer: t.outer,
+    })
 }

@@ -1,0 +1,103 @@
+-- What is to be sent after a value: an identifier leads to its packet's first row, and a field is passed with as many groups' ends as can
+-- stand together. Assumes nothing.
+use mathlib.Core.Path.{_≡_, refl, _∙_, subst, sym, ap}
+use mathlib.Core.Option.{some}
+use Prim.Native.Nat.{ℕ, zero, suc, _+_, _<_}
+use native.Mathlib.Omega.{arith}
+use Rattle.format.specs.Rules.{next, orEnd}
+use Rattle.format.specs.Table.{act, up, node, etcsRow, ctcsRow}
+use Rattle.format.specs.Kinds.{etcsStart, ctcsStart}
+use Rattle.format.specs.declared.packets.Start.{Start}
+use Rattle.format.proofs.Rows.{three-up, node-end, rootAt, etcs-root, ctcs-root, etcs-in, ctcs-in, etcs-up, ctcs-up, none-act}
+use Rattle.telegram.specs.Machine.{todoOf, Tidy, Moved, Turned, Advanced}
+use Rattle.telegram.specs.declared.todo.Todo.{Todo}
+use Rattle.telegram.specs.declared.todo.Ahead.the-variants.{On, Mark}
+use Rattle.telegram.proofs.Moves.{todo-end, todo-nest, todo-next, start-todo, follows-next, moves-on}
+
+-- no group holds a group that holds a group: after two turns it is no group's end
+two-turns : (t r s : Todo) → t .node < 213 → Turned t r → Turned r s → Tidy s
+two-turns t r s l p q =
+    record { inside = q .inside; settled = λ e. q .out e ∙ ap up (p .out (q .was e)) ∙ three-up (t .node) l }
+
+-- at no end, nothing turns
+stays : (t : Todo) → t .node < 213 → (act (t .node) ≡ 0 → ⊥) → Turned t t
+stays t l n = record { inside = l; items = refl; was = λ e. e; out = λ e. absurd (n e) }
+
+-- the items that begin in a row; of row 0, nothing
+root-end : (k : ℕ) → orEnd (rootAt k) ≡ node k
+root-end zero = sym (node-end 0 none-act)
+root-end (suc k) = refl
+
+-- the items that begin in a row, if it is one
+root-some : (k : ℕ) → (k ≡ 0 → ⊥) → rootAt k ≡ some (node k)
+root-some zero n = absurd (n refl)
+root-some (suc k) n = refl
+
+-- a packet's first row is no group's end
+starts-tidy : (k : ℕ) → k < 213 → up k ≡ 0 → Tidy (record { node = k; left = 0; outer = 0 })
+starts-tidy k l u = record { inside = l; settled = λ e. u }
+
+module _ (t : Todo) (v : ℕ) (d : Tidy t) where
+  -- between packets: the identifier's packet, or the end mark
+  module _ (s : Start) (q : s ≡ etcsStart v) (e : act (t .node) ≡ 0) where
+    -- the start that is told has the packet's row
+    row-is : s .row ≡ etcsRow v
+    unfolding etcsStart
+    row-is = ap (λ x. x .row) q
+
+    -- the items that begin there are next
+    next-is : next (todoOf t) v ≡ rootAt (s .row)
+    unfolding next
+    next-is =
+        ap (λ i. next i v) (todo-end (t .node) (t .left) (t .outer) e (d .settled e)) ∙ etcs-root v ∙ ap rootAt (sym row-is)
+
+    -- there is none: the end mark
+    pub advances-over : s .row ≡ 0 → Advanced t v Mark
+    advances-over z = record { tidy = tt; items = next-is ∙ ap rootAt z }
+
+    -- its first row
+    pub advances-to : (s .row ≡ 0 → ⊥) → Advanced t v (On (record { node = s .row; left = 0; outer = 0 }))
+    advances-to n =
+        let u : up (s .row) ≡ 0 = ap up row-is ∙ etcs-up v in
+        record {
+          tidy = starts-tidy (s .row) (subst (λ (k : ℕ). k < 213) (sym row-is) (etcs-in v)) u;
+          items = next-is ∙ root-some (s .row) n ∙ ap some (sym (start-todo (s .row) u));
+        }
+
+  -- at the CTCS packet's identifier: that packet, or nothing
+  module _ (s : Start) (q : s ≡ ctcsStart v) (e : act (t .node) ≡ 1) where
+    -- the start that is told has the packet's row
+    user-row-is : s .row ≡ ctcsRow v
+    unfolding ctcsStart
+    user-row-is = ap (λ x. x .row) q
+
+    -- its first row, or row 0
+    pub advances-inside : Advanced t v (On (record { node = s .row; left = 0; outer = 0 }))
+    unfolding next
+    advances-inside =
+        let u : up (s .row) ≡ 0 = ap up user-row-is ∙ ctcs-up v in
+        record {
+          tidy = starts-tidy (s .row) (subst (λ (k : ℕ). k < 213) (sym user-row-is) (ctcs-in v)) u;
+          items =
+              ap (λ i. next i v) (todo-nest (t .node) (t .left) (t .outer) e)
+              ∙ ap (λ o. some (orEnd o)) (ctcs-root v ∙ ap rootAt (sym user-row-is))
+              ∙ ap some (root-end (s .row) ∙ sym (start-todo (s .row) u));
+        }
+
+  -- at a field: it is passed, and then up to two ends
+  pub advances-on : (m r s : Todo) → 1 < act (t .node) → Moved t v m → Turned m r → Turned r s → Advanced t v (On s)
+  advances-on m r s a p f g =
+      record {
+        tidy = two-turns m r s (p .inside) f g;
+        items =
+            todo-next (t .node) (t .left) (t .outer) a v ∙ ap some (sym (g .items ∙ f .items ∙ p .items));
+      }
+
+  -- at a field that steers nothing, before a row that is no end: that row
+  pub advances-next : act (t .node) ≡ 2 → (act (t .node + 1) ≡ 0 → ⊥)
+      → Advanced t v (On (record { node = t .node + 1; left = t .left; outer = t .outer }))
+  advances-next e n =
+      let f = follows-next (t .node) v (d .inside) (omega arith) (omega arith) (λ h. absurd (omega arith)) in
+      let m = moves-on t v (d .inside) (t .node + 1) (omega arith) (omega arith) f in
+      let s = stays _ (m .inside) n in
+      advances-on _ _ _ (omega arith) m s s

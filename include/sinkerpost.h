@@ -1,0 +1,50 @@
+/* Sinkerpost: checking and normalising balise telegrams (TB/T 3484-2017), proved.
+ *
+ * A telegram is n bits, 58 to 830, in ceil(n/8) bytes, the first bit in the highest bit of byte 0, unused low bits of the last
+ * byte 0. Both functions answer every input: 0, or 1,024 times the number of a refusal plus its place, a bit of the telegram.
+ * They keep nothing between calls, allocate nothing and touch nothing but the bytes that they are lent.
+ *
+ * What the caller answers for: `bytes` is `length` bytes that can be read, `out` is `room` bytes that can be written, and the two
+ * do not overlap. A pointer is never null, not even with a length of 0.
+ */
+#ifndef SINKERPOST_H
+#define SINKERPOST_H
+
+#include <stddef.h>
+#include <stdint.h>
+
+#ifdef __cplusplus
+extern "C" {
+#endif
+
+/* Whether the bytes and n are a telegram. */
+uint64_t sinkerpost_check(const uint8_t *bytes, size_t length, uint64_t n);
+
+/* Writes the normal form of a telegram, which has n bits too, into out, at least 104 bytes. Bytes past ceil(n/8) - 1 stay as they
+ * were; a refusal changes none. */
+uint64_t sinkerpost_normalise(const uint8_t *bytes, size_t length, uint64_t n, uint8_t *out, size_t room);
+
+/* The number of a refusal, and its place. */
+#define SINKERPOST_NUMBER(answer) ((answer) / 1024)
+#define SINKERPOST_PLACE(answer) ((answer) % 1024)
+
+enum {
+    SINKERPOST_OK = 0,
+    SINKERPOST_ROOM = 1,       /* out is shorter than 104 bytes */
+    SINKERPOST_SIZE = 2,       /* n outside 58..830, or the input is not ceil(n/8) bytes */
+    SINKERPOST_PADDING = 3,    /* an unused low bit of the last byte is 1 */
+    SINKERPOST_HEADER = 4,     /* a header rule is broken */
+    SINKERPOST_ENDED = 5,      /* the bits end inside a field or before the end mark */
+    SINKERPOST_UNKNOWN = 6,    /* NID_PACKET or NID_XUSER is not in the tables */
+    SINKERPOST_VALUE = 7,      /* a field holds a value that is not allowed */
+    SINKERPOST_LENGTH = 8,     /* L_PACKET is not the number of bits that its packet takes */
+    SINKERPOST_DIRECTION = 9,  /* a CTCS packet's Q_DIR differs from that of its ETCS-44 */
+    SINKERPOST_REPEATED = 10,  /* a second packet, other than ETCS-44, with the NID_PACKET and Q_DIR of an earlier one */
+    SINKERPOST_TRAILING = 11   /* bits follow the end mark */
+};
+
+#ifdef __cplusplus
+}
+#endif
+
+#endif
