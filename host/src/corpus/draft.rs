@@ -1,0 +1,124 @@
+//! A telegram as a list of fields, before it is packed and perhaps damaged.
+
+/// What a field is, as far as damage aims at it.
+#[derive(Clone, Copy, Debug, PartialEq, Eq)]
+pub enum Mark {
+    /// Nothing in particular.
+    Plain,
+    /// A field of the header that has a rule.
+    Header,
+    /// NID_PACKET, the end mark's too.
+    Identifier,
+    /// The Q_DIR of a packet.
+    Direction,
+    /// The L_PACKET of a packet.
+    Length,
+    /// NID_XUSER.
+    InnerIdentifier,
+    /// The Q_DIR of a CTCS packet.
+    InnerDirection,
+    /// The L_PACKET of a CTCS packet.
+    InnerLength,
+    /// Q_SCALE.
+    Scale,
+    /// A distance at its packet's scale.
+    Distance,
+    /// L_TEXTDISPLAY, a distance that may be unlimited.
+    TextLength,
+    /// N_ITER or L_TEXT.
+    Count,
+    /// A field that may not hold everything its width holds.
+    Ruled,
+}
+
+/// A field with its value.
+#[derive(Clone, Copy, Debug)]
+pub struct Entry {
+    /// What it is.
+    pub mark: Mark,
+    /// Its width in bits.
+    pub width: u32,
+    /// Its value, which damage may leave too big for the width.
+    pub value: u64,
+}
+
+/// A telegram, or a part of one, field by field.
+#[derive(Clone, Debug, Default)]
+pub struct Draft {
+    /// The fields in order of sending.
+    pub entries: Vec<Entry>,
+    bits: usize,
+}
+
+impl Draft {
+    /// Adds a field.
+    pub fn put(&mut self, mark: Mark, width: u32, value: u64) {
+        self.entries.push(Entry { mark, width, value });
+        self.bits += width as usize;
+    }
+
+    /// The number of bits.
+    pub fn len(&self) -> usize {
+        self.bits
+    }
+
+    /// Whether there is no field.
+    pub fn is_empty(&self) -> bool {
+        self.entries.is_empty()
+    }
+
+    /// Drops the fields from an index on.
+    pub fn truncate(&mut self, entries: usize) {
+        self.entries.truncate(entries);
+        self.bits = self.entries.iter().map(|entry| entry.width as usize).sum();
+    }
+
+    /// The indices of the fields with a mark.
+    pub fn marked(&self, mark: Mark) -> Vec<usize> {
+        let all = self.entries.iter().enumerate();
+        all.filter(|(_, entry)| entry.mark == mark)
+            .map(|(index, _)| index)
+            .collect()
+    }
+
+    /// The bit at which a field begins.
+    pub fn start(&self, index: usize) -> usize {
+        let before = self.entries.iter().take(index);
+        before.map(|entry| entry.width as usize).sum()
+    }
+
+    /// The values.
+    pub fn values(&self) -> Vec<u64> {
+        self.entries.iter().map(|entry| entry.value).collect()
+    }
+
+    /// The bits, made one by one so as to owe nothing to the writer under test.
+    pub fn bits(&self) -> Vec<bool> {
+        let mut bits = Vec::with_capacity(self.bits);
+        for entry in &self.entries {
+            bits.extend(
+                (0..entry.width)
+                    .rev()
+                    .map(|bit| entry.value >> bit & 1 == 1),
+            );
+        }
+        bits
+    }
+}
+
+/// Bits in bytes, first bit highest, the unused low bits of the last byte 0.
+pub fn pack(bits: &[bool]) -> Vec<u8> {
+    let byte = |eight: &[bool]| {
+        let bits = eight.iter().enumerate();
+        bits.fold(0, |byte, (index, &bit)| byte | u8::from(bit) << (7 - index))
+    };
+    bits.chunks(8).map(byte).collect()
+}
+
+/// The first bits of bytes, or all of them if there are not so many.
+pub fn unpack(bytes: &[u8], n: usize) -> Vec<bool> {
+    let bits = bytes
+        .iter()
+        .flat_map(|byte| (0..8).rev().map(move |bit| byte >> bit & 1 == 1));
+    bits.take(n).collect()
+}
