@@ -1,5 +1,5 @@
 -- One field told: by how it counts. Assumes nothing.
-use mathlib.Core.Bool.{true, false}
+use mathlib.Core.Bool.{Bool, true, false, cond}
 use mathlib.Core.Path.{_≡_, refl, sym, ap, _∙_}
 use mathlib.Core.List.{List}
 use Prim.Native.Nat.{ℕ}
@@ -25,6 +25,14 @@ module _ (q : Scale) (v : ℕ) (es : List Entry) (e : numberOf q ≡ v) where
   rescaled-kept h =
       let m : metric v es ≡ false = ap (λ k. metric k es) (sym e) ∙ sym h in
       record { value = rw m refl; from = e; to = rw m e }
+
+-- in metres it stays in metres, whatever its distances are
+pub rescaled-already : (v : ℕ) (es : List Entry) → v ≡ 1 → Rescaled v es (record { value = 1; from = Metres; to = Metres })
+rescaled-already v es e = rw e (record { value = sym (one (metric 1 es)); from = refl; to = sym (one (metric 1 es)) })
+  where
+    one : (b : Bool) → _≡_ {A = ℕ} (cond b 1 1) 1
+    one true = refl
+    one false = refl
 
 module _ (q r : Scale) (k v : ℕ) (es : List Entry) where
   pub tells-kept : viewOf (fieldAt k .sense) v es ≡ kept → Tells q r k v es (record { value = v; from = q; to = r })

@@ -120,11 +120,19 @@ fn retell(
     }
 }
 
-// At a scale of v: in metres, if every distance up to the next scale can be told so, and else as it is.
+// At a scale of v: in metres, if every distance up to the next scale can be told so, and else as it is. In metres it is already, if
+// v says so.
 fn rescale(rows: &[u32; 213], s: &[u8], n: usize, v: u64, u: Todo, next: Cursor) -> Retold
     requires { ⌜ (now rows ≡ words) × (v ≤ 2) × Some (now s) n u (next .at) ⌝ }
     ensures { λ r. ⌜ Whichever (now (s .entry)) n u (next .at) (λ es. Rescaled v es r) ⌝ }
 {
+    if v == 1 {
+        return Retold {
+            value: 1,
+            from: Scale::Metres,
+            to: Scale::Metres,
+        };
+    }
     let from = scale(v);
     if metric(rows, s, n, from, u, next) {
         return Retold {
