@@ -8,6 +8,7 @@ pub mod Noting
 pub mod Seen
 pub mod Stepping
 pub mod Directions
+pub mod Idling
 pub mod Driving
 pub mod Scanning
 pub mod Measuring

@@ -1,5 +1,5 @@
 -- What the loop that checks a telegram goes by: the driver over bits, each taken through the cursor. Assumes nothing.
-use mathlib.Core.Path.{_≡_, sym, ap, _∙_, subst}
+use mathlib.Core.Path.{_≡_, refl, sym, ap, _∙_, subst}
 use mathlib.Core.List.{List, []}
 use Prim.Native.Nat.{ℕ, _+_, _*_, _-_, _^_, _≤_, _<_}
 use native.Mathlib.Omega.{arith}
@@ -25,7 +25,7 @@ use Rattle.format.specs.declared.Kind.{Kind}
 use Rattle.format.specs.declared.Kind.the-variants.{Ended, Trailing}
 use Rattle.format.specs.declared.Answer.the-variants.{Accepted}
 use Rattle.laws.proofs.Sources.{Sent, from-bits, width-positive}
-use Rattle.telegram.specs.Machine.{view, Beginning}
+use Rattle.telegram.specs.Machine.{view, Beginning, Idle, beyond}
 use Rattle.telegram.specs.Reader.{answerOf}
 use Rattle.telegram.specs.declared.state.State.{State}
 use Rattle.telegram.specs.declared.machine.Outcome.{Outcome}
@@ -33,6 +33,7 @@ use Rattle.telegram.specs.declared.machine.Outcome.the-variants.{Go, Ove
 use Rattle.telegram.proofs.Stepping.{width-in}
 use Rattle.telegram.specs.Seen.{Passed, Noticed}
 use Rattle.telegram.proofs.Driving.{Drives, drives-first, due-is, here, refused-lacking, refused-broken, accepted-mark, refused-trailing, mark-counted, moves, drives-on}
+use Rattle.telegram.proofs.Idling.{idle-passed, idle-noticed}
 use Rattle.format.specs.Fields as fields
 use Rattle.format.specs.Rules as rules
 
@@ -189,3 +190,31 @@ module _ {s : List ℕ} {n : ℕ} {rows seen : List ℕ} {met : ℕ} {st : State
           within = omega (arith, is-field .within, i .here, at-is);
           few = omega (arith, i .few, at-is, width-positive (fieldAt (st .todo .node)));
         }
+
+-- the cursor is made where the field begins
+pub scans-here : {s : List ℕ} {n : ℕ} {rows seen : List ℕ} {met : ℕ} {st : State} {c : Cursor} {count : ℕ} → Scans s n rows seen met st c count
+    → Scans s n rows seen met st (record { at = st .at }) count
+scans-here i = record { low = i .low; wide = i .wide; drives = i .drives; here = refl; within = i .within; few = i .few }
+
+-- past a field that no rule reads, if there are bits enough
+module _ {s : List ℕ} {n : ℕ} {rows seen : List ℕ} {met : ℕ} {st : State} {c : Cursor} {count : ℕ} (i : Scans s n rows seen met st c count)
+    (idle : Idle (st .todo .node)) {w : ℕ} (ew : w ≡ fieldAt (st .todo .node) .width) (l : w ≤ n - st .at) where
+  abbrev f : ℕ
+  f = fieldAt (st .todo .node) .width
+
+  abbrev v : ℕ
+  v = valueOf (fieldBits s f (c .at))
+
+  whole-field : takeAt s n f (c .at) ≡ Field v (record { at = c .at + f })
+  whole-field = take-whole s n f (c .at) (width-in (fieldAt (st .todo .node))) (omega (arith, i .here, i .within)) (i .wide)
+
+  past-it : Scans s n rows seen met (beyond st f) (record { at = c .at + f }) (count + 1)
+  past-it =
+      scans-on i refl refl whole-field (idle-passed st (i .drives .sound) idle v seen met) refl
+      (idle-noticed st (i .drives .sound) idle v seen met (omega (arith, i .drives .noted, i .drives .long, i .within, i .low)) (fits i refl refl whole-field))
+
+  pub scans-past : {r : State} → r ≡ beyond st w → Scans s n rows seen met r (record { at = r .at }) (count + 1)
+  scans-past e = rw (e, ew) (scans-here past-it)
+
+  pub less-past : {r : State} → r ≡ beyond st w → n - r .at < n - st .at
+  less-past e = rw e (omega (arith, ew, i .within, width-positive (fieldAt (st .todo .node))))

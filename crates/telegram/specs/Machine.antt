@@ -14,7 +14,7 @@ use Rattle.format.specs.Packets.Items.{end, nest, send, sendIf, sendEither, sen
 use Rattle.format.specs.Rules.{Earlier, Context, Terms, Next, context, next, ruleOf, broken, noted, settled, step, unless, begun}
 use Rattle.format.specs.Rules.Level.{inHeader, inPacket, inUser}
 use Rattle.format.specs.Rules.Next.{go, over, breaks}
-use Rattle.format.specs.Table.{node, act, jump, up, fieldAt, words}
+use Rattle.format.specs.Table.{node, act, jump, up, fieldAt, codeOf, words}
 use Rattle.format.specs.declared.Kind.{Kind}
 use Rattle.telegram.specs.declared.todo.Todo.{Todo}
 use Rattle.telegram.specs.declared.state.Level.{Level}
@@ -86,6 +86,30 @@ TidyOn Mark = Unit
 pub record Advanced (t : Todo) (v : ℕ) (r : Ahead) : Type 0 where
   pub tidy : TidyOn r
   pub items : next (todoOf t) v ≡ itemsOf r
+
+-- ---- a field that no rule reads
+
+-- it may hold anything, nothing is kept of it, and another field follows it
+pub record Idle (k : ℕ) : Type 0 where
+  pub plain : act k ≡ 2
+  pub free : codeOf (fieldAt k .sense) < 3
+  pub another : act (k + 1) ≡ 0 → ⊥
+
+-- the state after such a field of w bits
+abbrev pub beyond : State → ℕ → State
+beyond s w =
+    record {
+      at = s .at + w;
+      todo = record { node = s .todo .node + 1; left = s .todo .left; outer = s .todo .outer };
+      level = s .level;
+      start = s .start;
+      id = s .id;
+      dir = s .dir;
+      long = s .long;
+      userstart = s .userstart;
+      userlong = s .userlong;
+      pig = s .pig;
+    }
 
 -- ---- the context
 

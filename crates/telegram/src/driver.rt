@@ -1,14 +1,22 @@
 // What every driver of the machine does with a value: one field further, with the packets that came before in an array.
-ghost use Rattle.telegram.specs.Machine.{InTable, Directing};
+ghost use mathlib.Core.Path.{_≡_};
+ghost use mathlib.Core.Bool.{true};
+ghost use Prim.Native.Nat.{_≤_, _<_};
+ghost use Rattle.telegram.specs.Machine.{InTable, Directing, Idle, beyond};
 ghost use Rattle.telegram.specs.Seen.{Turning, Passed, Noticed};
 use crate::earlier::note;
 use crate::earlier::repeated;
 use crate::machine::Outcome;
 use crate::machine::step;
 use crate::rows::DIRECTION;
+use crate::rows::END;
+use crate::rows::SEND;
+use crate::rows::TEXT;
+use crate::rows::act;
 use crate::rows::code;
 use crate::state::Level;
 use crate::state::State;
+use crate::todo::Todo;
 
 // The field that is due holds v, after the packets of the first n of seen.
 pub(crate) fn turn(rows: &[u32; 213], seen: &[u16], n: usize, s: State, v: u64) -> Outcome
@@ -42,5 +50,48 @@ fn directing(rows: &[u32; 213], s: State) -> bool
         Level::Header => false,
         Level::Packet => true,
         Level::User => false,
+    }
+}
+
+// Whether the field of row k may hold anything, nothing is kept of it and another field follows it: then no rule reads it.
+pub(crate) fn idle(rows: &[u32; 213], k: usize) -> bool
+    requires { ⌜ InTable (now rows) k ⌝ }
+    ensures { λ r. ⌜ (r ≡ true → Idle k) ⌝ }
+{
+    if act(rows, k) != SEND {
+        return false;
+    }
+    if TEXT < code(rows, k) {
+        return false;
+    }
+    if act(rows, k + 1) == END {
+        return false;
+    }
+    true
+}
+
+// Where a telegram stands after such a field of w bits.
+pub(crate) fn beyond(s: State, w: usize) -> State
+    requires { ⌜ (s .at ≤ 65536) × (w ≤ 64) × (s .todo .node < 213) ⌝ }
+    ensures { λ r. ⌜ r ≡ beyond s w ⌝ }
+{
+    let t = s.todo;
+    let l = s.level;
+    let next = Todo {
+        node: t.node + 1,
+        left: t.left,
+        outer: t.outer,
+    };
+    State {
+        at: s.at + w,
+        todo: next,
+        level: l,
+        start: s.start,
+        id: s.id,
+        dir: s.dir,
+        long: s.long,
+        userstart: s.userstart,
+        userlong: s.userlong,
+        pig: s.pig,
     }
 }

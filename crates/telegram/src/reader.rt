@@ -10,6 +10,8 @@ ghost use Rattle.format.specs.Telegrams as telegrams;
 ghost use Rattle.telegram.specs.Reader.{sized, clear, checked, answerOf, Read};
 ghost use Rattle.telegram.specs.Filling.{Filling, Filled};
 use crate::answer::refuse;
+use crate::driver::beyond;
+use crate::driver::idle;
 use crate::driver::keep;
 use crate::driver::turn;
 use crate::machine::Outcome;
@@ -79,8 +81,9 @@ fn clear(s: &[u8], n: usize) -> bool
     }
 }
 
-// Goes over the fields of the first n bits of s, each taken through the cursor, up to the first broken rule or the end mark. Every
-// packet whose Q_DIR was taken is in seen: its Q_DIR has two bits of the 830, so that there are not more than 415.
+// Goes over the fields of the first n bits of s up to the first broken rule or the end mark. A field that a rule reads is taken through
+// the cursor; any other is passed, if there are bits enough for it. Every packet whose Q_DIR was taken is in seen: its Q_DIR has two
+// bits of the 830, so that there are not more than 415.
 fn scan(s: &[u8], n: usize) -> Answer
     requires { ⌜ (n ≤ 830) × (n ≤ 8 * length (now s)) ⌝ }
     ensures { λ r. ⌜ r ≡ answerOf (telegrams.read paper (take n (bitsOf (now (s .entry))))) ⌝ }
@@ -89,12 +92,20 @@ fn scan(s: &[u8], n: usize) -> Answer
     let mut seen = [0u16; 416];
     let mut met: usize = 0;
     let mut st = begin();
-    let mut c = Cursor { at: 0 };
     let mut count: usize = 0;
     loop {
         let t = st.todo;
         let k = t.node;
-        let Taken::Field(v, next) = c.take(s, n, width(&rows, k)) else {
+        let w = width(&rows, k);
+        if idle(&rows, k) {
+            if w <= n - st.at {
+                st = beyond(st, w);
+                count += 1;
+                continue;
+            }
+        }
+        let c = Cursor { at: st.at };
+        let Taken::Field(v, next) = c.take(s, n, w) else {
             return refuse(Kind::Ended, place(Kind::Ended, st, 0));
         };
         match turn(&rows, &seen, met, st, v) {
@@ -110,7 +121,6 @@ fn scan(s: &[u8], n: usize) -> Answer
             Outcome::Go(after) => {
                 met = keep(&rows, &mut seen, met, st, v);
                 st = after;
-                c = next;
                 count += 1;
             }
         }

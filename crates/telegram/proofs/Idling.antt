@@ -1,0 +1,60 @@
+-- A field that no rule reads is passed: whatever it holds, the definition's step comes to the state beyond it. Assumes nothing.
+use mathlib.Core.Bool.{true, false}
+use mathlib.Core.List.{List}
+use mathlib.Core.Path.{_≡_, refl}
+use Prim.Native.Nat.{ℕ, _+_, _^_, _<_}
+use native.Mathlib.Omega.{arith}
+use lib.ListN.{length}
+use Rattle.format.specs.Table.{fieldAt, codeOf}
+use Rattle.telegram.specs.Machine.{contextOf, Idle, beyond, Advanced, Noted, Sound, Judged, Entered, Stepped}
+use Rattle.telegram.specs.Seen.{Passed, Noticed}
+use Rattle.telegram.specs.declared.state.State.{State}
+use Rattle.telegram.specs.declared.machine.Outcome.the-variants.{Go}
+use Rattle.telegram.specs.declared.todo.Ahead.the-variants.{On}
+use Rattle.telegram.specs.declared.verdict.Verdict.the-variants.{Fine}
+use Rattle.telegram.proofs.Advancing.{advances-next}
+use Rattle.telegram.proofs.Directions.{directs-not, held-none, passes, notices, absurd-flag}
+use Rattle.telegram.proofs.Noting.{nothing}
+use Rattle.telegram.proofs.Senses.{judge-free}
+use Rattle.telegram.proofs.Stepping.{settled-goes, entered-on, stepped-goes}
+
+module _ (s : State) (d : Sound s) (i : Idle (s .todo .node)) (v : ℕ) where
+  abbrev width : ℕ
+  width = fieldAt (s .todo .node) .width
+
+  abbrev after : State
+  after = beyond s width
+
+  ahead : Advanced (s .todo) v (On (after .todo))
+  ahead = advances-next (s .todo) v (d .tidy) (i .plain) (i .another)
+
+  -- the code of no field that is noted
+  notes : Noted s (codeOf (fieldAt (s .todo .node) .sense)) v s
+  notes =
+      let c = i .free in
+      nothing s v (codeOf (fieldAt (s .todo .node) .sense)) (λ e. omega arith) (λ e. omega arith) (λ e. omega arith) (λ e. omega arith) (λ e. omega arith)
+
+  pub sound-after : Sound after
+  sound-after =
+      record {
+        tidy = ahead .tidy;
+        first = omega (arith, d .first);
+        second = omega (arith, d .second);
+        small = d .small;
+      }
+
+  enters : Entered s v (Go after)
+  enters = entered-on s v (after .todo) s (s .at + width) (Go after) ahead notes refl (settled-goes after sound-after (i .another))
+
+  judged : Judged s v false Fine
+  judged p l h = judge-free p (contextOf l s) (fieldAt (s .todo .node)) v (omega (arith, i .free))
+
+  not-nine : codeOf (fieldAt (s .todo .node) .sense) ≡ 9 → ⊥
+  not-nine e = omega (arith, i .free)
+
+  module _ (seen : List ℕ) (met : ℕ) where
+    pub idle-passed : Passed seen met s v (Go after)
+    idle-passed = passes seen met s v false false (Go after) (directs-not s not-nine) (λ e. absurd-flag false e refl) (stepped-goes s v false d (Go after) judged enters)
+
+    pub idle-noticed : met < length seen → v < 2 ^ width → Noticed seen met s v met seen
+    idle-noticed h f = notices seen met s v false met seen (directs-not s not-nine) h f (held-none seen met false s v refl)
