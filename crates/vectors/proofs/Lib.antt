@@ -1,0 +1,2 @@
+-- What the functions of this program stand on.
+mod Lent

@@ -1,0 +1,2 @@
+-- What the functions of this program keep to.
+pub mod Room
