@@ -42,13 +42,13 @@ fn no_question(out: &mut [u8; 4096], q: Queue) -> Queue
     say(out, q, b"not a question\n")
 }
 
-// Reads the telegram that these characters write, or normalises it. Packing finds a character that is no bit, and 105 bytes have no
-// room for more than 840: neither is a question.
+// Reads the telegram that these characters write, or normalises it. Packing finds a character that is no bit, and 125 bytes have no
+// room for more than 1,000: neither is a question.
 fn packed(line: &[u8], normal: bool, out: &mut [u8; 4096], q: Queue) -> Queue
     requires { ⌜ q .waiting < 4096 ⌝ }
     ensures { λ r. ⌜ r .waiting < 4096 ⌝ }
 {
-    let mut s = [0u8; 105];
+    let mut s = [0u8; 125];
     match packing::pack(line, &mut s) {
         Packed::Bits(n) => {
             let k = bits::bytes_for(n);

@@ -5,7 +5,7 @@
 //     w V V ..     the telegram with these decimal values: `ok` and its bits
 //
 // A refusal is `refused`, its number and its place. With no bits or no values the line is the letter alone; behind `r` and `n` the
-// space may stay. The answer to any other line is `not a question`, and so it is to more than 840 bits, to more than 1,000 values and
+// space may stay. The answer to any other line is `not a question`, and so it is to more than 1,000 bits or values and
 // to a number past 64 bits.
 ghost use mathlib.Core.Bool.{true};
 ghost use mathlib.Core.Path.{_≡_};
