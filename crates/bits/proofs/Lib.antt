@@ -4,3 +4,4 @@ pub mod Bytes
 pub mod Fields
 pub mod Once
 mod Loops
+mod Windows

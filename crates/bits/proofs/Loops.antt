@@ -106,7 +106,7 @@ value-in-byte s k t low h e =
     at = omega arith
 
 -- got bits are read, and the next t lie in one byte, low bits above its lowest
-take-step : (s : List ℕ) (at got t low : ℕ) → (at + got) / 8 < length s → (at + got) % 8 + (t + low) ≡ 8
+pub take-step : (s : List ℕ) (at got t low : ℕ) → (at + got) / 8 < length s → (at + got) % 8 + (t + low) ≡ 8
     → valueOf (fieldBits s (got + t) at) ≡ valueOf (fieldBits s got at) * 2 ^ t + getD s ((at + got) / 8) 0 / 2 ^ low % 2 ^ t
 take-step s at got t low h e =
     rw (take-add got t (drop at (bitsOf s)), drop-drop got at (bitsOf s), valueOf-append)
