@@ -1,10 +1,8 @@
 -- `bits::inside` meets its contract: each test answers one of the definition's. Assumes nothing.
-use mathlib.Core.Path.{_∙_}
 use native.Mathlib.Omega.{arith}
 use borrow.Author.Needs.{needs}
 use borrow.Author.Tests.{le-leb, lt-leb}
 use denote.Ref.{now}
-use lib.Dec.{leb}
 use lib.ListN.{length}
 use Prim.Native.Nat.{_+_}
 use Rattle.bits.proofs.Fields.{room-by-bytes}
