@@ -102,3 +102,10 @@ digits-valueOf (b ∷ bs) h =
 
 pub digits-valueOf-at : (w : ℕ) (bs : List ℕ) → Below 2 bs → length bs ≡ w → digits w (valueOf bs) ≡ bs
 digits-valueOf-at w bs h e = rw (← e) (digits-valueOf bs h)
+
+-- the number of w bits inside a list of bits is a part of the list's number: the low bits after them are shifted out
+pub valueOf-part : (bs : List ℕ) (o w low : ℕ) → Below 2 bs → length bs ≡ o + (w + low)
+    → valueOf (take w (drop o bs)) ≡ valueOf bs / 2 ^ low % 2 ^ w
+valueOf-part bs o w low h e =
+    ap (λ (l : List ℕ). valueOf (take w (drop o l))) (sym (digits-valueOf-at (o + (w + low)) bs h e))
+    ∙ rw (drop-digits o (w + low) (valueOf bs), take-digits w low (valueOf bs)) (valueOf-digits-mod w (valueOf bs / 2 ^ low))

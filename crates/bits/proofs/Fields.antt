@@ -3,12 +3,14 @@ use mathlib.Core.Path.{_≡_, refl, sym, ap, _∙_, subst}
 use mathlib.Core.List.{List, _++_}
 use mathlib.Core.Bool.{Bool, true, false, _&&_}
 use Prim.Native.Nat.{ℕ, _+_, _-_, _*_, _^_, _≤_, _<_}
+use native.Mathlib.Nat.{lt-of-not-le}
+use native.Mathlib.Decide.{decLe}
 use native.Mathlib.Omega.{arith}
 use borrow.Author.Tests.{leb-true, le-leb, lt-leb}
 use lib.Dec.{leb, ltb}
 use lib.ListN.{length, take, drop, length-append, length-drop}
 use lib.Seq.{take-at, drop-at, length-take-le}
-use Rattle.bits.specs.Bits.{digits, valueOf, bitsOf, bytesOf, Below}
+use Rattle.bits.specs.Bits.{digits, valueOf, bitsOf, bytesFor, bytesOf, Below}
 use Rattle.bits.specs.Take.{inside, fieldBits, takenIf, takeAt}
 use Rattle.bits.specs.Put.{over, putAt, Put}
 use Rattle.bits.specs.declared.Cursor.{Cursor}
@@ -31,6 +33,14 @@ field-lt s w at h =
     (valueOf-lt (fieldBits s w at) (below-fieldBits s w at))
 
 -- ---- taking
+
+-- the bytes of n bits are there where n bits are
+pub room-by-bytes : (n k : ℕ) → leb (bytesFor n) k ≡ leb n (8 * k)
+room-by-bytes n k = by (decLe n (8 * k))
+  where
+    by : Dec (n ≤ 8 * k) → leb (bytesFor n) k ≡ leb n (8 * k)
+    by (yes h) = le-leb (bytesFor n) k (omega arith) ∙ sym (le-leb n (8 * k) h)
+    by (no h) = let l = lt-of-not-le h in lt-leb (bytesFor n) k (omega arith) ∙ sym (lt-leb n (8 * k) l)
 
 -- what a field that was taken is
 pub record IsField (s : List ℕ) (n width at v next : ℕ) : Type 0 where
@@ -65,6 +75,15 @@ module _ (s : List ℕ) (n width at : ℕ) where
   pub taken : (v : ℕ) (c : Cursor) → takeAt s n width at ≡ Field v c → IsField s n width at v (c .at)
   unfolding takeAt
   taken v c e = by-tests v c (leb width 64) (leb (at + width) n) (leb n (8 * length s)) refl refl refl e
+
+  -- the same by the one test of the definition
+  pub inside-field : inside s n width at ≡ true → IsField s n width at (valueOf (fieldBits s width at)) (at + width)
+  unfolding takeAt
+  inside-field e = taken _ (record { at = at + width }) (rw e)
+
+  pub take-outside : inside s n width at ≡ false → takeAt s n width at ≡ Short
+  unfolding takeAt
+  take-outside e = rw e
 
   -- a whole field is taken
   pub take-whole : width ≤ 64 → at + width ≤ n → n ≤ 8 * length s

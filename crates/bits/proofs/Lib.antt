@@ -1,6 +1,7 @@
--- The laws of bits: those of numbers and their digits, of bytes, of fields, and what the code's loops stand on.
+-- The laws of bits: those of numbers and their digits, of bytes, of fields, and what the code's loops and windows stand on.
 pub mod Digits
 pub mod Bytes
 pub mod Fields
 pub mod Once
 mod Loops
+mod Windows

@@ -41,27 +41,28 @@ shifted-out v w = by (decLe (2 ^ w) v)
 join-lt : (j k a b : ℕ) → a < 2 ^ j → b < 2 ^ k → a * 2 ^ k + b < 2 ^ (j + k)
 join-lt j k a b h l = rw (pow-add 2 j k) (digits-lt h l)
 
--- a byte put together anew: its high bits, then t bits of x, then its low bits
-module _ (b x t low : ℕ) (hb : b < 256) (e : t + low ≤ 8) (hx : x < 2 ^ t) where
+-- a number of n bits put together anew: its high bits, then t bits of x, then its low bits
+module _ (n b x t low : ℕ) (hb : b < 2 ^ n) (e : t + low ≤ n) (hx : x < 2 ^ t) where
   off : ℕ
-  off = 8 - (t + low)
+  off = n - (t + low)
 
   hi-lt : b / 2 ^ (t + low) < 2 ^ off
   unfolding off
   hi-lt = shr-lt off (t + low) (rw (sub-add-cancel e) hb)
 
-  pub splice-lt : (b / 2 ^ (t + low) * 2 ^ t + x) * 2 ^ low + b % 2 ^ low < 256
+  pub splice-lt : (b / 2 ^ (t + low) * 2 ^ t + x) * 2 ^ low + b % 2 ^ low < 2 ^ n
   unfolding off
   splice-lt =
-      let eight : off + t + low ≡ 8 = omega arith in
-      subst (λ (n : ℕ). (b / 2 ^ (t + low) * 2 ^ t + x) * 2 ^ low + b % 2 ^ low < 2 ^ n) eight
+      let whole : off + t + low ≡ n = omega arith in
+      subst (λ (m : ℕ). (b / 2 ^ (t + low) * 2 ^ t + x) * 2 ^ low + b % 2 ^ low < 2 ^ m) whole
       (join-lt (off + t) low _ _ (join-lt off t _ x hi-lt hx) (mod-lt b (pow-pos low)))
 
-  pub splice-is : bitOr (bitOr (b / 2 ^ (t + low) * 2 ^ t % 2 ^ 64) x * 2 ^ low % 2 ^ 64) (bitAnd b (1 * 2 ^ low % 2 ^ 64 - 1))
+  pub splice-is : n ≤ 64 → low < 64
+      → bitOr (bitOr (b / 2 ^ (t + low) * 2 ^ t % 2 ^ 64) x * 2 ^ low % 2 ^ 64) (bitAnd b (1 * 2 ^ low % 2 ^ 64 - 1))
       ≡ (b / 2 ^ (t + low) * 2 ^ t + x) * 2 ^ low + b % 2 ^ low
   unfolding off
-  splice-is =
-      rw (one-shl low (omega arith), and-mask b low, or-shl off t (b / 2 ^ (t + low)) x hi-lt hx (omega arith))
+  splice-is l m =
+      rw (one-shl low m, and-mask b low, or-shl off t (b / 2 ^ (t + low)) x hi-lt hx (omega arith))
       (or-shl (off + t) low _ _ (join-lt off t _ x hi-lt hx) (mod-lt b (pow-pos low)) (omega arith))
 
 -- ---- the bits around a byte
@@ -106,7 +107,7 @@ value-in-byte s k t low h e =
     at = omega arith
 
 -- got bits are read, and the next t lie in one byte, low bits above its lowest
-take-step : (s : List ℕ) (at got t low : ℕ) → (at + got) / 8 < length s → (at + got) % 8 + (t + low) ≡ 8
+pub take-step : (s : List ℕ) (at got t low : ℕ) → (at + got) / 8 < length s → (at + got) % 8 + (t + low) ≡ 8
     → valueOf (fieldBits s (got + t) at) ≡ valueOf (fieldBits s got at) * 2 ^ t + getD s ((at + got) / 8) 0 / 2 ^ low % 2 ^ t
 take-step s at got t low h e =
     rw (take-add got t (drop at (bitsOf s)), drop-drop got at (bitsOf s), valueOf-append)
@@ -137,47 +138,45 @@ over-last p d m e r k t h l = rw regroup (drop-at ((p ++ d) ++ m) (e ++ r) (k + 
     regroup : p ++ ((d ++ (m ++ e)) ++ r) ≡ ((p ++ d) ++ m) ++ (e ++ r)
     regroup = simp append-assoc
 
+-- among bits p and r, a number of n bits is put together anew: its t bits from off on are x, all other bits are as they were
+module _ (p r : List ℕ) (n b off t low x k : ℕ) (e : off + (t + low) ≡ n) (hx : x < 2 ^ t) (hk : length p + off ≡ k) where
+  d : List ℕ
+  d = digits off (b / 2 ^ (t + low))
+
+  m : List ℕ
+  m = digits t (b / 2 ^ low)
+
+  z : List ℕ
+  z = digits low b
+
+  old : digits n b ≡ d ++ (m ++ z)
+  unfolding d m z
+  old = rw (← e, digits-split off (t + low) b, digits-split t low b)
+
+  new : digits n ((b / 2 ^ (t + low) * 2 ^ t + x) * 2 ^ low + b % 2 ^ low) ≡ d ++ (digits t x ++ z)
+  unfolding d z
+  new = rw (← e, digits-three off t low (b / 2 ^ (t + low)) x (b % 2 ^ low) hx (mod-lt b (pow-pos low)), digits-low low b)
+
+  seam : length (p ++ d) ≡ k
+  unfolding d
+  seam = rw (length-append p d, length-digits off (b / 2 ^ (t + low))) hk
+
+  pub spliced : p ++ (digits n ((b / 2 ^ (t + low) * 2 ^ t + x) * 2 ^ low + b % 2 ^ low) ++ r)
+      ≡ take k (p ++ (digits n b ++ r)) ++ (digits t x ++ drop (k + t) (p ++ (digits n b ++ r)))
+  unfolding m
+  spliced =
+      rw (new, old, over-first p d m z r k seam, over-last p d m z r k t seam (length-digits t (b / 2 ^ low)))
+      (simp append-assoc)
+
 -- a byte is written whose t bits from off on are x and whose other bits are as they were
 put-byte : (s : List ℕ) (q off t low x y : ℕ) → q < length s → off + (t + low) ≡ 8 → x < 2 ^ t
     → y ≡ (getD s q 0 / 2 ^ (t + low) * 2 ^ t + x) * 2 ^ low + getD s q 0 % 2 ^ low
     → bitsOf (set s q y) ≡ take (8 * q + off) (bitsOf s) ++ (digits t x ++ drop (8 * q + off + t) (bitsOf s))
 put-byte s q off t low x y h e hx ey =
     bitsOf-set s q y h
-    ∙ rw (
-      new,
-      bitsOf-at s q h,
-      old,
-      over-first p d m z r (8 * q + off) seam,
-      over-last p d m z r (8 * q + off) t seam (length-digits t (b / 2 ^ low)),
-    )
-    (simp append-assoc)
-  where
-    b : ℕ
-    b = getD s q 0
-
-    p : List ℕ
-    p = bitsOf (take q s)
-
-    d : List ℕ
-    d = digits off (b / 2 ^ (t + low))
-
-    m : List ℕ
-    m = digits t (b / 2 ^ low)
-
-    z : List ℕ
-    z = digits low b
-
-    r : List ℕ
-    r = bitsOf (drop (suc q) s)
-
-    old : digits 8 b ≡ d ++ (m ++ z)
-    old = rw (← e, digits-split off (t + low) b, digits-split t low b)
-
-    new : digits 8 y ≡ d ++ (digits t x ++ z)
-    new = rw (← e, ey, digits-three off t low (b / 2 ^ (t + low)) x (b % 2 ^ low) hx (mod-lt b (pow-pos low)), digits-low low b)
-
-    seam : length (p ++ d) ≡ 8 * q + off
-    seam = rw (length-append p d, length-before s q h, length-digits off (b / 2 ^ (t + low)))
+    ∙ rw (ey, bitsOf-at s q h)
+    (spliced (bitsOf (take q s)) (bitsOf (drop (suc q) s)) 8 (getD s q 0) off t low x (8 * q + off) e hx
+    (ap (λ (l : ℕ). l + off) (length-before s q h)))
 
 -- done bits of v are written, the next t go over those that follow, and rest are left
 put-step : (bs cs : List ℕ) (at done t rest v : ℕ) → at + done ≤ length bs

@@ -1,8 +1,8 @@
--- `bits::splice` meets its contract: shifts and masks put three parts of a byte together. Assumes nothing.
+-- `bits::splice` meets its contract: shifts and masks put three parts of a number together. Assumes nothing.
 use native.Mathlib.Omega.{arith}
 use borrow.Author.Needs.{needs}
 use lib.Pow.{pow-pos}
-use Rattle.bits.proofs.Loops.{one-shl, splice-is, splice-lt}
+use Rattle.bits.proofs.Loops.{one-shl, splice-is}
 use Rattle.bits.proofs.splice.Statement.{statement}
 use Rattle.bits.proofs.splice.Tie as tie
 
@@ -24,16 +24,12 @@ shl-result-2 c = search needs
 sub-result : tie.Need-sub-result
 sub-result c = rw (one-shl (c .args .low) (omega arith)) (pow-pos (c .args .low))
 
-cast-result : tie.Need-cast-result
-cast-result c =
-    rw (splice-is (c .args .b) (c .args .x) (c .args .t) (c .args .low) (omega arith) (c .pre .0) (c .pre .1)) (
-    record { fits = splice-lt (c .args .b) (c .args .x) (c .args .t) (c .args .low) (omega arith) (c .pre .0) (c .pre .1) }
-    )
-
 returns : tie.Need-returns
-returns c = splice-is (c .args .b) (c .args .x) (c .args .t) (c .args .low) (omega arith) (c .pre .0) (c .pre .1)
+returns c =
+    let a = c .args in
+    splice-is 64 (a .w) (a .x) (a .t) (a .low) (c .fits .w .fits) (omega arith) (c .pre .1) (omega arith) (omega arith)
 
 pub splice-spec : {M : Type 1} → statement M
 splice-spec =
     tie.close
-    (tie.spec add-top shr-top shl-top shl-result shl-result-2 sub-result cast-result returns)
+    (tie.spec add-top shr-top shl-top shl-result shl-result-2 sub-result returns)

@@ -1,118 +1,63 @@
--- `bits::Cursor::take` meets its contract. The loop's invariant: v is the number of the got bits from at on.
--- The measure is how many are left. Assumes nothing.
-use mathlib.Core.Path.{_≡_, refl, sym, ap, _∙_}
-use Prim.Native.Nat.{ℕ, _≤_, _-_, _+_, _/_}
+-- `bits::Cursor::take` meets its contract: where a whole field lies inside, both ways of reading it give its number. Assumes nothing.
+use mathlib.Core.Path.{_≡_, sym, _∙_}
+use mathlib.Core.Logic.{⊎-elim}
+use Prim.Native.Nat.{_+_}
 use native.Mathlib.Omega.{arith}
 use borrow.Author.Needs.{needs}
+use borrow.Author.Tests.{not-true, not-false}
 use denote.Ref.{now}
 use Rattle.bits.specs.Bits.{valueOf}
 use Rattle.bits.specs.Take.{fieldBits}
-use Rattle.bits.specs.declared.Taken.the-variants.{Field}
-use Rattle.bits.proofs.Fields.{take-wide, take-past, take-roomless, take-whole}
-use Rattle.bits.proofs.Loops.{take-again}
+use Rattle.bits.proofs.Fields.{IsField, inside-field, take-whole, take-outside}
 use Rattle.bits.proofs.Cursor.take.Statement.{statement}
 use Rattle.bits.proofs.Cursor.take.Tie as tie
 
-abbrev Inv-loop : tie.InvT-loop
-Inv-loop s n width at v₀ got₀ v got = (got ≤ width) × (v ≡ valueOf (fieldBits s got at))
+inside-requires : tie.Need-inside-requires
+inside-requires c κs = search needs
 
-abbrev μ-loop : tie.MeasureT-loop
-μ-loop s n width at v₀ got₀ v got = width - got
+returns : tie.Need-returns
+returns c =
+    let a = c .before .before .before .args in
+    sym (take-outside (now (a .s)) (a .n) (a .width) (a .self .at) (sym (c .before .inside .ensures) ∙ not-true _ (c .if1 .taken)))
 
-returns : tie.Need-returns Inv-loop μ-loop
-returns c = let a = c .before .before .args in sym (take-wide (now (a .s)) (a .n) (a .width) (a .self .at) (c .if1 .taken))
+wide-requires : tie.Need-wide-requires
+wide-requires c κs = search needs
 
-returns-2 : tie.Need-returns-2 Inv-loop μ-loop
-returns-2 c = let a = c .before .before .before .args in sym (take-past (now (a .s)) (a .n) (a .width) (a .self .at) (omega arith) (omega arith))
+-- past the first test a whole field lies there
+whole : (c : tie.After-wide) → let a = c .before .before .before .before .args in
+    IsField (now (a .s)) (a .n) (a .width) (a .self .at) (valueOf (fieldBits (now (a .s)) (a .width) (a .self .at))) (a .self .at + a .width)
+whole c = inside-field _ _ _ _ (sym (c .before .before .inside .ensures) ∙ not-false _ (c .before .if1 .left))
 
-returns-3 : tie.Need-returns-3 Inv-loop μ-loop
-returns-3 c = let a = c .before .before .before .before .args in sym (take-past (now (a .s)) (a .n) (a .width) (a .self .at) (omega arith) (omega arith))
+joined-requires : tie.Need-joined-requires
+joined-requires c κs = let i = whole (c .before) in omega arith
 
-bytes-for-requires : tie.Need-bytes-for-requires Inv-loop μ-loop
-bytes-for-requires c κs = search needs
+windowed-requires : tie.Need-windowed-requires
+windowed-requires c κs =
+    let i = whole (c .before) in
+    let n = c .before .wide .ensures (c .if2 .left) in
+    omega arith
 
-returns-4 : tie.Need-returns-4 Inv-loop μ-loop
-returns-4 c = let a = c .before .before .before .before .before .before .args in sym (take-roomless (now (a .s)) (a .n) (a .width) (a .self .at) (omega arith) (omega arith) (omega arith))
+add-t11 : tie.Need-add-t11
+add-t11 c = let i = whole (c .before) in omega arith
 
-loop-holds : tie.Need-loop-holds Inv-loop μ-loop
-unfolding valueOf
-loop-holds c = (omega arith, refl)
+-- by whichever way it was read
+number : (c : tie.Joined2) → let a = c .before .before .before .before .before .args in
+    c .if2 .v ≡ valueOf (fieldBits (now (a .s)) (a .width) (a .self .at))
+number c = ⊎-elim (λ w. w .2 ∙ w .1 .ensures) (λ w. w .2 ∙ w .1 .ensures) (c .if2 .came)
 
-add-k : tie.Need-add-k Inv-loop μ-loop
-add-k c = omega arith
-
-sub-in-byte : tie.Need-sub-in-byte Inv-loop μ-loop
-sub-in-byte c = omega arith
-
-in-byte-requires : tie.Need-in-byte-requires Inv-loop μ-loop
-in-byte-requires c κs = search needs
-
-sub-low : tie.Need-sub-low Inv-loop μ-loop
-sub-low c = omega arith
-
-sub-low-2 : tie.Need-sub-low-2 Inv-loop μ-loop
-sub-low-2 c = omega arith
-
-shl-v : tie.Need-shl-v Inv-loop μ-loop
-shl-v c = omega arith
-
-shared-slice-read-part : tie.Need-shared-slice-read-part Inv-loop μ-loop
-shared-slice-read-part c = omega arith
-
-cast-part : tie.Need-cast-part Inv-loop μ-loop
-cast-part c = omega (arith, c .shared-slice-known2 .given ((c .before .before .before .before .before .before .before .before .before .before .args .self .at + c .before .before .before .loop .got) / 8))
-
-part-requires : tie.Need-part-requires Inv-loop μ-loop
-part-requires c κs = omega arith
-
-add-got : tie.Need-add-got Inv-loop μ-loop
-add-got c = omega arith
-
-loop-less : tie.Need-loop-less Inv-loop μ-loop
-loop-less c = omega (arith, c .before .before .in-byte .ensures .2 (omega arith))
-
-loop-again : tie.Need-loop-again Inv-loop μ-loop
-loop-again c =
-    let a = c .before .before .before .before .before .before .before .before .before .before .before .args in
-    let l = c .before .before .before .before .loop in (
-      omega arith,
-      take-again (now (a .s)) (a .self .at) (l .got) (c .before .before .in-byte .result) _ (l .v) (c .part .result)
-          (l .inv .1) (c .part .ensures) (omega arith) (omega arith) (omega arith),
-    )
-
-add-t12 : tie.Need-add-t12 Inv-loop μ-loop
-add-t12 c = omega arith
-
-returns-5 : tie.Need-returns-5 Inv-loop μ-loop
-returns-5 c =
-    let a = c .before .before .before .before .before .before .before .before .args in
-    let e : c .before .loop .got ≡ a .width = omega arith in
-    sym (take-whole (now (a .s)) (a .n) (a .width) (a .self .at) (omega arith) (omega arith) (omega arith)
-    ∙ ap (λ (x : ℕ). Field x (record { at = a .self .at + a .width })) (sym (rw e at (c .before .loop .inv .1))))
+returns-2 : tie.Need-returns-2
+returns-2 c =
+    let i = whole (c .before) in
+    rw (number c) (sym (take-whole _ _ _ _ (i .narrow) (i .within) (i .room)))
 
 pub take-spec : {M : Type 1} → statement M
 take-spec =
     tie.close
     (tie.spec
-    Inv-loop
-    μ-loop
+    inside-requires
     returns
-    returns-2
-    returns-3
-    bytes-for-requires
-    returns-4
-    loop-holds
-    add-k
-    sub-in-byte
-    in-byte-requires
-    sub-low
-    sub-low-2
-    shl-v
-    shared-slice-read-part
-    cast-part
-    part-requires
-    add-got
-    loop-less
-    loop-again
-    add-t12
-    returns-5)
+    wide-requires
+    joined-requires
+    windowed-requires
+    add-t11
+    returns-2)
