@@ -2,17 +2,18 @@
 -- stand together. Assumes nothing.
 use mathlib.Core.Path.{_≡_, refl, _∙_, subst, sym, ap}
 use mathlib.Core.Option.{some}
-use Prim.Native.Nat.{ℕ, zero, suc, _+_, _<_}
+use Prim.Native.Nat.{ℕ, zero, suc, _+_, _-_, _<_}
+use native.Mathlib.Numerals.{add-one}
 use native.Mathlib.Omega.{arith}
 use Rattle.format.specs.Rules.{next, orEnd}
-use Rattle.format.specs.Table.{act, up, node, etcsRow, ctcsRow}
+use Rattle.format.specs.Table.{act, jump, up, node, etcsRow, ctcsRow}
 use Rattle.format.specs.Kinds.{etcsStart, ctcsStart}
 use Rattle.format.specs.declared.packets.Start.{Start}
-use Rattle.format.proofs.Rows.{three-up, node-end, rootAt, etcs-root, ctcs-root, etcs-in, ctcs-in, etcs-up, ctcs-up, none-act}
+use Rattle.format.proofs.Rows.{three-up, end-jump, up-in, up-repeats, group-starts, node-end, rootAt, etcs-root, ctcs-root, etcs-in, ctcs-in, etcs-up, ctcs-up, none-act}
 use Rattle.telegram.specs.Machine.{todoOf, Tidy, Moved, Turned, Advanced}
 use Rattle.telegram.specs.declared.todo.Todo.{Todo}
 use Rattle.telegram.specs.declared.todo.Ahead.the-variants.{On, Mark}
-use Rattle.telegram.proofs.Moves.{todo-end, todo-nest, todo-next, start-todo, follows-next, moves-on}
+use Rattle.telegram.proofs.Moves.{todo-end, todo-nest, todo-next, start-todo, follows-next, moves-on, turns-again}
 
 -- no group holds a group that holds a group: after two turns it is no group's end
 two-turns : (t r s : Todo) → t .node < 213 → Turned t r → Turned r s → Tidy s
@@ -93,11 +94,33 @@ module _ (t : Todo) (v : ℕ) (d : Tidy t) where
             todo-next (t .node) (t .left) (t .outer) a v ∙ ap some (sym (g .items ∙ f .items ∙ p .items));
       }
 
-  -- at a field that steers nothing, before a row that is no end: that row
-  pub advances-next : act (t .node) ≡ 2 → (act (t .node + 1) ≡ 0 → ⊥)
-      → Advanced t v (On (record { node = t .node + 1; left = t .left; outer = t .outer }))
-  advances-next e n =
-      let f = follows-next (t .node) v (d .inside) (omega arith) (omega arith) (λ h. absurd (omega arith)) in
-      let m = moves-on t v (d .inside) (t .node + 1) (omega arith) (omega arith) f in
-      let s = stays _ (m .inside) n in
-      advances-on _ _ _ (omega arith) m s s
+  -- at a field that steers nothing
+  module _ (e : act (t .node) ≡ 2) where
+    abbrev nextRow : Todo
+    nextRow = record { node = t .node + 1; left = t .left; outer = t .outer }
+
+    passed : Moved t v nextRow
+    passed =
+        moves-on t v (d .inside) (t .node + 1) (omega arith) (omega arith)
+        (follows-next (t .node) v (d .inside) (omega arith) (omega arith) (λ h. absurd (omega arith)))
+
+    -- before a row that is no end: that row
+    pub advances-next : (act (t .node + 1) ≡ 0 → ⊥) → Advanced t v (On nextRow)
+    advances-next n =
+        let s = stays nextRow (passed .inside) n in
+        advances-on nextRow nextRow nextRow (omega arith) passed s s
+
+    -- before the end of a group that comes again: its first row, which is a field
+    module _ (z : act (t .node + 1) ≡ 0) (p : 0 < jump (t .node + 1)) (l : 0 < t .left) where
+      pub again-field : 1 < act (jump (t .node + 1) + 1)
+      again-field =
+          let u : jump (t .node + 1) ≡ up (t .node + 1) = end-jump (t .node + 1) (passed .inside) z in
+          let q : 0 < up (t .node + 1) = omega arith in
+          let i = up-in (t .node + 1) (passed .inside) in
+          rw (add-one, u) (group-starts (up (t .node + 1)) i (up-repeats (t .node + 1) (passed .inside) q))
+
+      pub advances-again : Advanced t v (On (record { node = jump (t .node + 1) + 1; left = t .left - 1; outer = t .outer }))
+      advances-again =
+          let g = turns-again nextRow (jump (t .node + 1)) (passed .inside) z refl (λ h. omega arith) (jump (t .node + 1) + 1) (λ h. omega arith) refl in
+          let n = again-field in
+          advances-on nextRow _ _ (omega arith) passed g (stays _ (g .inside) (λ h. omega arith))

@@ -1,32 +1,54 @@
 -- A field that no rule reads is passed: whatever it holds, the definition's step comes to the state beyond it. Assumes nothing.
-use mathlib.Core.Bool.{true, false}
+use mathlib.Core.Bool.{Bool, true, false, cond}
 use mathlib.Core.List.{List}
 use mathlib.Core.Path.{_≡_, refl}
-use Prim.Native.Nat.{ℕ, _+_, _^_, _<_}
+use Prim.Native.Nat.{ℕ, _+_, _-_, _^_, _<_}
 use native.Mathlib.Omega.{arith}
+use borrow.Author.Tests.{eqb-true, eqb-false}
+use lib.Dec.{eqb}
 use lib.ListN.{length}
-use Rattle.format.specs.Table.{fieldAt, codeOf}
+use Rattle.format.specs.Table.{act, jump, fieldAt, codeOf}
 use Rattle.telegram.specs.Machine.{contextOf, Idle, beyond, Advanced, Noted, Sound, Judged, Entered, Stepped}
 use Rattle.telegram.specs.Seen.{Passed, Noticed}
 use Rattle.telegram.specs.declared.state.State.{State}
 use Rattle.telegram.specs.declared.machine.Outcome.the-variants.{Go}
+use Rattle.telegram.specs.declared.todo.Todo.{Todo}
 use Rattle.telegram.specs.declared.todo.Ahead.the-variants.{On}
 use Rattle.telegram.specs.declared.verdict.Verdict.the-variants.{Fine}
-use Rattle.telegram.proofs.Advancing.{advances-next}
+use Rattle.telegram.proofs.Advancing.{advances-next, again-field, advances-again}
 use Rattle.telegram.proofs.Directions.{directs-not, held-none, passes, notices, absurd-flag}
 use Rattle.telegram.proofs.Noting.{nothing}
 use Rattle.telegram.proofs.Senses.{judge-free}
 use Rattle.telegram.proofs.Stepping.{settled-goes, entered-on, stepped-goes}
 
-module _ (s : State) (d : Sound s) (i : Idle (s .todo .node)) (v : ℕ) where
+module _ (s : State) (d : Sound s) (i : Idle (s .todo)) (v : ℕ) where
   abbrev width : ℕ
   width = fieldAt (s .todo .node) .width
 
   abbrev after : State
   after = beyond s width
 
+  abbrev k : ℕ
+  k = s .todo .node + 1
+
+  -- what follows, and that it is a field
+  abbrev Follows : Todo → Type 0
+  Follows t = Advanced (s .todo) v (On t) × (act (t .node) ≡ 0 → ⊥)
+
+  by-test : (b : Bool) → eqb (act k) 0 ≡ b
+      → Follows (cond b (record { node = jump k + 1; left = s .todo .left - 1; outer = s .todo .outer }) (record { node = k; left = s .todo .left; outer = s .todo .outer }))
+  by-test true e =
+      let z = eqb-true (act k) 0 e in
+      let g = i .again z in
+      let f = again-field (s .todo) v (d .tidy) (i .plain) z (g .0) (g .1) in
+      (advances-again (s .todo) v (d .tidy) (i .plain) z (g .0) (g .1), λ h. omega arith)
+  by-test false e = let n = eqb-false (act k) 0 e in (advances-next (s .todo) v (d .tidy) (i .plain) n, n)
+
+  follows : Follows (after .todo)
+  follows = by-test (eqb (act k) 0) refl
+
   ahead : Advanced (s .todo) v (On (after .todo))
-  ahead = advances-next (s .todo) v (d .tidy) (i .plain) (i .another)
+  ahead = follows .0
 
   -- the code of no field that is noted
   notes : Noted s (codeOf (fieldAt (s .todo .node) .sense)) v s
@@ -44,7 +66,7 @@ module _ (s : State) (d : Sound s) (i : Idle (s .todo .node)) (v : ℕ) where
       }
 
   enters : Entered s v (Go after)
-  enters = entered-on s v (after .todo) s (s .at + width) (Go after) ahead notes refl (settled-goes after sound-after (i .another))
+  enters = entered-on s v (after .todo) s (s .at + width) (Go after) ahead notes refl (settled-goes after sound-after (follows .1))
 
   judged : Judged s v false Fine
   judged p l h = judge-free p (contextOf l s) (fieldAt (s .todo .node)) v (omega (arith, i .free))

@@ -198,7 +198,7 @@ scans-here i = record { low = i .low; wide = i .wide; drives = i .drives; here =
 
 -- past a field that no rule reads, if there are bits enough
 module _ {s : List ℕ} {n : ℕ} {rows seen : List ℕ} {met : ℕ} {st : State} {c : Cursor} {count : ℕ} (i : Scans s n rows seen met st c count)
-    (idle : Idle (st .todo .node)) {w : ℕ} (ew : w ≡ fieldAt (st .todo .node) .width) (l : w ≤ n - st .at) where
+    (idle : Idle (st .todo)) {w : ℕ} (ew : w ≡ fieldAt (st .todo .node) .width) (l : w ≤ n - st .at) where
   abbrev f : ℕ
   f = fieldAt (st .todo .node) .width
 

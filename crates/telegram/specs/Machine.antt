@@ -3,7 +3,7 @@ use mathlib.Core.Path.{_≡_}
 use mathlib.Core.Bool.{true, false, Bool, cond}
 use mathlib.Core.List.{List, [], _∷_}
 use mathlib.Core.Option.{Option, some, none}
-use Prim.Native.Nat.{ℕ, suc, _+_, _^_, _<_, _≤_}
+use Prim.Native.Nat.{ℕ, suc, _+_, _-_, _^_, _<_, _≤_}
 use lib.Dec.{eqb}
 use lib.ListN.{getD}
 use Rattle.format.specs.Fields.{Rule, Sense}
@@ -89,18 +89,24 @@ pub record Advanced (t : Todo) (v : ℕ) (r : Ahead) : Type 0 where
 
 -- ---- a field that no rule reads
 
--- it may hold anything, nothing is kept of it, and another field follows it
-pub record Idle (k : ℕ) : Type 0 where
-  pub plain : act k ≡ 2
-  pub free : codeOf (fieldAt k .sense) < 3
-  pub another : act (k + 1) ≡ 0 → ⊥
+-- it may hold anything and nothing is kept of it, and after it another field is due: of the next row, or of the group again
+pub record Idle (t : Todo) : Type 0 where
+  pub plain : act (t .node) ≡ 2
+  pub free : codeOf (fieldAt (t .node) .sense) < 3
+  pub again : act (t .node + 1) ≡ 0 → (0 < jump (t .node + 1)) × (0 < t .left)
+
+-- what is to be sent after such a field
+abbrev pub later : Todo → Todo
+later t =
+    cond (eqb (act (t .node + 1)) 0) (record { node = jump (t .node + 1) + 1; left = t .left - 1; outer = t .outer })
+    (record { node = t .node + 1; left = t .left; outer = t .outer })
 
 -- the state after such a field of w bits
 abbrev pub beyond : State → ℕ → State
 beyond s w =
     record {
       at = s .at + w;
-      todo = record { node = s .todo .node + 1; left = s .todo .left; outer = s .todo .outer };
+      todo = later (s .todo);
       level = s .level;
       start = s .start;
       id = s .id;

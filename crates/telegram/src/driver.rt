@@ -2,7 +2,7 @@
 ghost use mathlib.Core.Path.{_≡_};
 ghost use mathlib.Core.Bool.{true};
 ghost use Prim.Native.Nat.{_≤_, _<_};
-ghost use Rattle.telegram.specs.Machine.{InTable, Directing, Idle, beyond};
+ghost use Rattle.telegram.specs.Machine.{InTable, Directing, Idle, later, beyond};
 ghost use Rattle.telegram.specs.Seen.{Turning, Passed, Noticed};
 use crate::earlier::note;
 use crate::earlier::repeated;
@@ -14,6 +14,7 @@ use crate::rows::SEND;
 use crate::rows::TEXT;
 use crate::rows::act;
 use crate::rows::code;
+use crate::rows::jump;
 use crate::state::Level;
 use crate::state::State;
 use crate::todo::Todo;
@@ -53,35 +54,59 @@ fn directing(rows: &[u32; 213], s: State) -> bool
     }
 }
 
-// Whether the field of row k may hold anything, nothing is kept of it and another field follows it: then no rule reads it.
-pub(crate) fn idle(rows: &[u32; 213], k: usize) -> bool
-    requires { ⌜ InTable (now rows) k ⌝ }
-    ensures { λ r. ⌜ (r ≡ true → Idle k) ⌝ }
+// Whether the field that is due may hold anything, nothing is kept of it and another is due after it, of the next row or of the group
+// again: then no rule reads it.
+pub(crate) fn idle(rows: &[u32; 213], t: Todo) -> bool
+    requires { ⌜ InTable (now rows) (t .node) ⌝ }
+    ensures { λ r. ⌜ (r ≡ true → Idle t) ⌝ }
 {
+    let k = t.node;
     if act(rows, k) != SEND {
         return false;
     }
     if TEXT < code(rows, k) {
         return false;
     }
-    if act(rows, k + 1) == END {
+    if act(rows, k + 1) != END {
+        return true;
+    }
+    if jump(rows, k + 1) == 0 {
+        return false;
+    }
+    if t.left == 0 {
         return false;
     }
     true
 }
 
+// What is to be sent after such a field.
+fn later(rows: &[u32; 213], t: Todo) -> Todo
+    requires { ⌜ InTable (now rows) (t .node) × Idle t ⌝ }
+    ensures { λ r. ⌜ r ≡ later t ⌝ }
+{
+    let k = t.node + 1;
+    if act(rows, k) == END {
+        return Todo {
+            node: jump(rows, k) + 1,
+            left: t.left - 1,
+            outer: t.outer,
+        };
+    }
+    Todo {
+        node: k,
+        left: t.left,
+        outer: t.outer,
+    }
+}
+
 // Where a telegram stands after such a field of w bits.
-pub(crate) fn beyond(s: State, w: usize) -> State
-    requires { ⌜ (s .at ≤ 65536) × (w ≤ 64) × (s .todo .node < 213) ⌝ }
+pub(crate) fn beyond(rows: &[u32; 213], s: State, w: usize) -> State
+    requires { ⌜ InTable (now rows) (s .todo .node) × Idle (s .todo) × (s .at ≤ 65536) × (w ≤ 64) ⌝ }
     ensures { λ r. ⌜ r ≡ beyond s w ⌝ }
 {
     let t = s.todo;
     let l = s.level;
-    let next = Todo {
-        node: t.node + 1,
-        left: t.left,
-        outer: t.outer,
-    };
+    let next = later(rows, t);
     State {
         at: s.at + w,
         todo: next,

@@ -97,9 +97,9 @@ fn scan(s: &[u8], n: usize) -> Answer
         let t = st.todo;
         let k = t.node;
         let w = width(&rows, k);
-        if idle(&rows, k) {
+        if idle(&rows, t) {
             if w <= n - st.at {
-                st = beyond(st, w);
+                st = beyond(&rows, st, w);
                 count += 1;
                 continue;
             }

@@ -24,21 +24,40 @@ add-act c = search needs
 
 act-requires-2 : tie.Need-act-requires-2
 act-requires-2 c κs =
-    let a = c .before .before .before .before in
-    let l = next-in (a .args .k) (a .pre .inside) (omega arith) in record { table = a .pre .table; inside = omega arith }
+    let l = next-in (c .before .before .before .before .args .t .node) (c .before .before .before .before .pre .inside) (omega arith) in record { table = c .before .before .before .before .pre .table; inside = omega arith }
 
 returns-3 : tie.Need-returns-3
-returns-3 c = λ e. absurd-flag _ e refl
+returns-3 c = λ e. record { plain = omega arith; free = omega arith; again = λ z. absurd (c .if3 .taken (c .before .act2 .ensures ∙ z)) }
+
+add-jump : tie.Need-add-jump
+add-jump c = search needs
+
+jump-requires : tie.Need-jump-requires
+jump-requires c κs =
+    let l = next-in (c .before .before .before .before .before .before .args .t .node) (c .before .before .before .before .before .before .pre .inside) (omega arith) in record { table = c .before .before .before .before .before .before .pre .table; inside = omega arith }
 
 returns-4 : tie.Need-returns-4
-returns-4 c =
-    λ e.
-    let b = c .before .before .before in
-    record {
-      plain = omega arith;
-      free = omega arith;
-      another = λ z. c .if3 .left (c .before .act2 .ensures ∙ z);
-    }
+returns-4 c = λ e. absurd-flag _ e refl
+
+returns-5 : tie.Need-returns-5
+returns-5 c = λ e. absurd-flag _ e refl
+
+returns-6 : tie.Need-returns-6
+returns-6 c = λ e. record { plain = omega arith; free = omega arith; again = λ z. (let j = c .before .before .if4 .left in omega arith, let j = c .if5 .left in omega arith) }
 
 pub idle-spec : {M : Type 1} → statement M
-idle-spec = tie.close (tie.spec act-requires returns code-requires returns-2 add-act act-requires-2 returns-3 returns-4)
+idle-spec =
+    tie.close
+    (tie.spec
+    act-requires
+    returns
+    code-requires
+    returns-2
+    add-act
+    act-requires-2
+    returns-3
+    add-jump
+    jump-requires
+    returns-4
+    returns-5
+    returns-6)

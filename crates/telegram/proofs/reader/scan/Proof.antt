@@ -39,18 +39,18 @@ sub-if2 c = c .before .before .before .before .before .before .before .loop .inv
 
 beyond-requires : tie.Need-beyond-requires Inv-loop μ-loop
 beyond-requires c κs =
-    let i = c .before .before .before .before .before .before .before .before .loop .inv in
-    let w = width-in (fieldAt (c .before .before .before .before .before .before .before .before .loop .st .todo .node)) in
-    (omega (arith, i .within, i .low), omega (arith, c .before .before .before .before .before .width .ensures), i .drives .sound .tidy .inside)
+    let i = c .before .before .before .before .before .before .before .before .before .loop .inv in
+    let w = width-in (fieldAt (c .before .before .before .before .before .before .before .before .before .loop .st .todo .node)) in
+    (record { table = i .drives .table; inside = i .drives .sound .tidy .inside }, c .before .before .before .before .idle .ensures (c .before .before .before .if1 .taken), omega (arith, i .within, i .low), omega (arith, c .before .before .before .before .before .before .width .ensures))
 
 add-count : tie.Need-add-count Inv-loop μ-loop
-add-count c = let i = c .before .before .before .before .before .before .before .before .before .loop .inv in omega (arith, i .few, i .within, i .low)
+add-count c = let i = c .before .before .before .before .before .before .before .before .before .before .loop .inv in omega (arith, i .few, i .within, i .low)
 
 loop-less : tie.Need-loop-less Inv-loop μ-loop
-loop-less c = less-past (c .before .before .before .before .before .before .before .before .before .loop .inv) (c .before .before .before .before .idle .ensures (c .before .before .before .if1 .taken)) (c .before .before .before .before .before .before .width .ensures) (c .before .if2 .taken) (c .beyond .ensures)
+loop-less c = less-past (c .before .before .before .before .before .before .before .before .before .before .loop .inv) (c .before .before .before .before .before .idle .ensures (c .before .before .before .before .if1 .taken)) (c .before .before .before .before .before .before .before .width .ensures) (c .before .before .if2 .taken) (c .beyond .ensures)
 
 loop-again : tie.Need-loop-again Inv-loop μ-loop
-loop-again c = scans-past (c .before .before .before .before .before .before .before .before .before .loop .inv) (c .before .before .before .before .idle .ensures (c .before .before .before .if1 .taken)) (c .before .before .before .before .before .before .width .ensures) (c .before .if2 .taken) (c .beyond .ensures)
+loop-again c = scans-past (c .before .before .before .before .before .before .before .before .before .before .loop .inv) (c .before .before .before .before .before .idle .ensures (c .before .before .before .before .if1 .taken)) (c .before .before .before .before .before .before .before .width .ensures) (c .before .before .if2 .taken) (c .beyond .ensures)
 
 -- any other
 
@@ -102,8 +102,8 @@ returns-2 c =
 enum-told-2 : tie.Need-enum-told-2 Inv-loop μ-loop
 enum-told-2 c = search needs
 
-add-t32 : tie.Need-add-t32 Inv-loop μ-loop
-add-t32 c = let i = c .before .before .before .before .before .before .before .before .before .before .before .before .before .before .before .before .before .loop .inv in omega (arith, i .few, i .within, i .low)
+add-t33 : tie.Need-add-t33 Inv-loop μ-loop
+add-t33 c = let i = c .before .before .before .before .before .before .before .before .before .before .before .before .before .before .before .before .before .loop .inv in omega (arith, i .few, i .within, i .low)
 
 returns-3 : tie.Need-returns-3 Inv-loop μ-loop
 returns-3 c = ends-well (c .before .before .before .before .before .before .before .before .before .before .before .before .before .before .before .before .before .loop .inv) (c .before .before .before .before .before .before .before .before .before .before .before .before .before .before .width .ensures) (c .before .before .before .before .before .before .before .before .before .before .take .ensures) (c .before .before .before .before .before .before .before .before .v .given .1) (c .before .before .before .before .turn .ensures) (c .before .before .enum-told2 .given .1) (c .if3 .taken)
@@ -171,7 +171,7 @@ scan-spec =
     refuse-requires-2
     returns-2
     enum-told-2
-    add-t32
+    add-t33
     returns-3
     place-requires-3
     refuse-requires-3
