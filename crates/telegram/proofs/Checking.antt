@@ -57,12 +57,13 @@ module _ (s : List ℕ) (n : ℕ) where
 
   by-tests : (es : List Entry) (a b : Bool) → sized s n ≡ a → clear s n ≡ b
       → cond a (cond b (read paper (take n (bitsOf s))) (atOnce Padding)) (atOnce Size) ≡ accepted es
-      → Sized s n × (read paper (take n (bitsOf s)) ≡ accepted es)
-  by-tests es true true h k e = (sized-is h, e)
+      → Sized s n × (clear s n ≡ true) × (read paper (take n (bitsOf s)) ≡ accepted es)
+  by-tests es true true h k e = (sized-is h, k, e)
   by-tests es true false h k e = let z : _≡_ {A = ℕ} 0 1 = cc in absurd (omega arith)
   by-tests es false b h k e = let z : _≡_ {A = ℕ} 0 1 = cc in absurd (omega arith)
 
-  accepted-is : (es : List Entry) → checked paper s n ≡ accepted es → Sized s n × (read paper (take n (bitsOf s)) ≡ accepted es)
+  accepted-is : (es : List Entry) → checked paper s n ≡ accepted es
+      → Sized s n × (clear s n ≡ true) × (read paper (take n (bitsOf s)) ≡ accepted es)
   unfolding checked
   accepted-is es e = by-tests es (sized s n) (clear s n) refl refl e
 
@@ -71,6 +72,8 @@ module _ (s : List ℕ) (n : ℕ) where
     pub telegram : Telegram paper es
     pub same : take n (bitsOf s) ≡ bits es
     pub within : n ≤ 8 * length s
+    pub bytes : length s ≡ bytesFor n
+    pub clear : clear s n ≡ true
 
   pub holds : (es : List Entry) → checked paper s n ≡ accepted es → Holds es
   holds es e =
@@ -78,8 +81,8 @@ module _ (s : List ℕ) (n : ℕ) where
       let z = a .0 in
       let wide : n ≤ 8 * length s = omega arith in
       let long : length (take n (bitsOf s)) ≡ n = length-take-le n (bitsOf s) (rw (length-bitsOf s) wide) in
-      let t = read-is paper (take n (bitsOf s)) es (below-take 2 n (bitsOf s) (below-bitsOf s)) (omega arith) (a .1) in
-      record { telegram = t .0; same = t .1; within = wide }
+      let t = read-is paper (take n (bitsOf s)) es (below-take 2 n (bitsOf s) (below-bitsOf s)) (omega arith) (a .2) in
+      record { telegram = t .0; same = t .1; within = wide; bytes = z .bytes; clear = a .1 }
 
 -- ---- an answer, and what it answers for
 

@@ -8,7 +8,7 @@ use borrow.Author.Tests.{eqb-true, eqb-false}
 use lib.Dec.{eqb}
 use lib.ListN.{length}
 use Rattle.format.specs.Table.{act, jump, fieldAt, codeOf}
-use Rattle.telegram.specs.Machine.{contextOf, Idle, beyond, Advanced, Noted, Sound, Judged, Entered, Stepped}
+use Rattle.telegram.specs.Machine.{contextOf, Tidy, Idle, later, beyond, Advanced, Noted, Sound, Judged, Entered, Stepped}
 use Rattle.telegram.specs.Seen.{Passed, Noticed}
 use Rattle.telegram.specs.declared.state.State.{State}
 use Rattle.telegram.specs.declared.machine.Outcome.the-variants.{Go}
@@ -21,6 +21,26 @@ use Rattle.telegram.proofs.Noting.{nothing}
 use Rattle.telegram.proofs.Senses.{judge-free}
 use Rattle.telegram.proofs.Stepping.{settled-goes, entered-on, stepped-goes}
 
+-- what follows, and that it is a field
+module _ (t : Todo) (d : Tidy t) (i : Idle t) (v : ℕ) where
+  abbrev k : ℕ
+  k = t .node + 1
+
+  abbrev Follows : Todo → Type 0
+  Follows u = Advanced t v (On u) × (act (u .node) ≡ 0 → ⊥)
+
+  by-test : (b : Bool) → eqb (act k) 0 ≡ b
+      → Follows (cond b (record { node = jump k + 1; left = t .left - 1; outer = t .outer }) (record { node = k; left = t .left; outer = t .outer }))
+  by-test true e =
+      let z = eqb-true (act k) 0 e in
+      let g = i .again z in
+      let f = again-field t v d (i .plain) z (g .0) (g .1) in
+      (advances-again t v d (i .plain) z (g .0) (g .1), λ h. omega arith)
+  by-test false e = let n = eqb-false (act k) 0 e in (advances-next t v d (i .plain) n, n)
+
+  pub idle-ahead : Follows (later t)
+  idle-ahead = by-test (eqb (act k) 0) refl
+
 module _ (s : State) (d : Sound s) (i : Idle (s .todo)) (v : ℕ) where
   abbrev width : ℕ
   width = fieldAt (s .todo .node) .width
@@ -28,27 +48,8 @@ module _ (s : State) (d : Sound s) (i : Idle (s .todo)) (v : ℕ) where
   abbrev after : State
   after = beyond s width
 
-  abbrev k : ℕ
-  k = s .todo .node + 1
-
-  -- what follows, and that it is a field
-  abbrev Follows : Todo → Type 0
-  Follows t = Advanced (s .todo) v (On t) × (act (t .node) ≡ 0 → ⊥)
-
-  by-test : (b : Bool) → eqb (act k) 0 ≡ b
-      → Follows (cond b (record { node = jump k + 1; left = s .todo .left - 1; outer = s .todo .outer }) (record { node = k; left = s .todo .left; outer = s .todo .outer }))
-  by-test true e =
-      let z = eqb-true (act k) 0 e in
-      let g = i .again z in
-      let f = again-field (s .todo) v (d .tidy) (i .plain) z (g .0) (g .1) in
-      (advances-again (s .todo) v (d .tidy) (i .plain) z (g .0) (g .1), λ h. omega arith)
-  by-test false e = let n = eqb-false (act k) 0 e in (advances-next (s .todo) v (d .tidy) (i .plain) n, n)
-
-  follows : Follows (after .todo)
-  follows = by-test (eqb (act k) 0) refl
-
-  ahead : Advanced (s .todo) v (On (after .todo))
-  ahead = follows .0
+  follows : Advanced (s .todo) v (On (after .todo)) × (act (after .todo .node) ≡ 0 → ⊥)
+  follows = idle-ahead (s .todo) (d .tidy) i v
 
   -- the code of no field that is noted
   notes : Noted s (codeOf (fieldAt (s .todo .node) .sense)) v s
@@ -59,14 +60,14 @@ module _ (s : State) (d : Sound s) (i : Idle (s .todo)) (v : ℕ) where
   pub sound-after : Sound after
   sound-after =
       record {
-        tidy = ahead .tidy;
+        tidy = follows .0 .tidy;
         first = omega (arith, d .first);
         second = omega (arith, d .second);
         small = d .small;
       }
 
   enters : Entered s v (Go after)
-  enters = entered-on s v (after .todo) s (s .at + width) (Go after) ahead notes refl (settled-goes after sound-after (follows .1))
+  enters = entered-on s v (after .todo) s (s .at + width) (Go after) (follows .0) notes refl (settled-goes after sound-after (follows .1))
 
   judged : Judged s v false Fine
   judged p l h = judge-free p (contextOf l s) (fieldAt (s .todo .node)) v (omega (arith, i .free))

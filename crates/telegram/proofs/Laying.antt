@@ -50,6 +50,9 @@ module _ (bs : List ℕ) (at w v : ℕ) (h : at + w ≤ length bs) where
       ∙ ap (drop k) (ap (drop (at + w)) over-front ∙ drop-at front (drop (at + w) bs) (at + w) length-front)
       ∙ drop-drop k (at + w) bs
 
+  pub drop-behind : drop (at + w) (over bs at w v) ≡ drop (at + w) bs
+  drop-behind = ap (λ (k : ℕ). drop k (over bs at w v)) (sym (zero-add (at + w))) ∙ drop-over 0 ∙ ap (λ (k : ℕ). drop k bs) (add-zero (at + w))
+
   -- a field and more behind it is more behind a field that is written
   stored-over : (xs : List ℕ) → stored bs (digits w v ++ xs) at ≡ stored (over bs at w v) xs (at + w)
   stored-over xs =
@@ -92,7 +95,20 @@ cleared s q m h l =
     ∙ drop-append-le m (digits 8 0) behind (rw (length-digits 8 0) h)
     ∙ ap (λ (y : List ℕ). y ++ behind) (zeros-left m h)
 
--- a bit string in front of bytes whose byte of its last bit is cleared is its bytes in front of the bytes behind them
+-- a bit string in front of bytes that have 0 behind it up to a byte's end is its bytes in front of the bytes behind them
+pub bytes-behind : (bs base rest : List ℕ) → Below 2 bs → Below 256 rest
+    → drop (length bs) (bitsOf base) ≡ replicate (8 * bytesFor (length bs) - length bs) 0 ++ bitsOf rest
+    → bytesOf (bs ++ drop (length bs) (bitsOf base)) ≡ bytesOf bs ++ rest
+bytes-behind bs base rest b g e =
+    let zeros : List ℕ = replicate (8 * bytesFor (length bs) - length bs) 0 in
+    ap bytesOf
+    (ap (λ (y : List ℕ). bs ++ y) e
+    ∙ sym (append-assoc bs zeros (bitsOf rest))
+    ∙ ap (λ (y : List ℕ). y ++ bitsOf rest) (sym (bitsOf-bytesOf bs b))
+    ∙ sym (bitsOf-append (bytesOf bs) rest))
+    ∙ bytesOf-bitsOf (bytesOf bs ++ rest) (below-append 256 (bytesOf bs) rest (below-bytesOf bs b) g)
+
+-- such are bytes whose byte of its last bit is cleared
 bytes-over : (bs s : List ℕ) → Below 2 bs → Below 256 s → 0 < length bs → length bs ≤ 8 * length s
     → bytesOf (bs ++ drop (length bs) (bitsOf (set s ((length bs - 1) / 8) 0))) ≡ bytesOf bs ++ drop (length (bytesOf bs)) s
 bytes-over bs s b g p l =
@@ -102,19 +118,10 @@ bytes-over bs s b g p l =
     let en : n ≡ 8 * q + m = omega arith in
     let em : 8 - m ≡ 8 * bytesFor n - n = omega arith in
     let eq : suc q ≡ length (bytesOf bs) = let c : suc q ≡ bytesFor n = omega arith in c ∙ sym (length-bytesOf bs) in
-    let rest = drop (length (bytesOf bs)) s in
-    let clear : drop n (bitsOf (set s q 0)) ≡ replicate (8 * bytesFor n - n) 0 ++ bitsOf rest =
-    ap (λ (k : ℕ). drop k (bitsOf (set s q 0))) en
+    bytes-behind bs (set s q 0) (drop (length (bytesOf bs)) s) b (below-drop 256 (length (bytesOf bs)) s g)
+    (ap (λ (k : ℕ). drop k (bitsOf (set s q 0))) en
     ∙ cleared s q m (omega arith) (omega arith)
-    ∙ ap₂ (λ (j k : ℕ). replicate j 0 ++ bitsOf (drop k s)) em eq in
-    let whole : bs ++ drop n (bitsOf (set s q 0)) ≡ bitsOf (bytesOf bs ++ rest) =
-    ap (λ (y : List ℕ). bs ++ y) clear
-    ∙ sym (append-assoc bs (replicate (8 * bytesFor n - n) 0) (bitsOf rest))
-    ∙ ap (λ (y : List ℕ). y ++ bitsOf rest) (sym (bitsOf-bytesOf bs b))
-    ∙ sym (bitsOf-append (bytesOf bs) rest) in
-    ap bytesOf whole
-    ∙ bytesOf-bitsOf (bytesOf bs ++ rest)
-    (below-append 256 (bytesOf bs) rest (below-bytesOf bs b) (below-drop 256 (length (bytesOf bs)) s g))
+    ∙ ap₂ (λ (j k : ℕ). replicate j 0 ++ bitsOf (drop k s)) em eq)
 
 -- ---- a telegram of n bits
 
@@ -140,24 +147,23 @@ pub record Laid (es : List Entry) (n : ℕ) (base out : List ℕ) (at : ℕ) (le
   pub keeps : length out ≡ length base
   pub room : 104 ≤ length base
 
--- before the first field, with the last byte cleared
-pub laid-first : {es : List Entry} {n : ℕ} (out : List ℕ) → Telegram paper es → n ≡ length (bits es) → 104 ≤ length out
-    → Laid es n (set out ((n - 1) / 8) 0) (set out ((n - 1) / 8) 0) 0 es
-laid-first {es} {n} out t e h =
-    let base = set out ((n - 1) / 8) 0 in
+-- before the first field
+pub laid-first : {es : List Entry} {n : ℕ} (base : List ℕ) → Telegram paper es → n ≡ length (bits es) → 104 ≤ length base
+    → Laid es n base base 0 es
+laid-first {es} {n} base t e h =
     record {
       telegram = t;
       size = e;
       holds = ap (λ (k : ℕ). bits es ++ drop k (bitsOf base)) (e ∙ sym (add-zero (length (bits es))));
       keeps = refl;
-      room = rw (length-set out ((n - 1) / 8) 0) h;
+      room = h;
     }
 
 -- the field that is due is put with its value
 module _ {es : List Entry} {n : ℕ} {base out : List ℕ} {at : ℕ} {left : List Entry} (g : Laid es n base out at left)
     {t : Todo} (o : Onward t at left) {w : ℕ} (ew : w ≡ fieldAt (t .node) .width) {v : ℕ} (ev : v ≡ valueDue o)
     {wrote : Bool} {after : List ℕ} (p : Put out at w v wrote after) where
-  inside : at + w ≤ 8 * length out
+  pub inside : at + w ≤ 8 * length out
   inside = omega (arith, low o ew, g .keeps, g .room)
 
   inside-bits : at + w ≤ length (bitsOf out)
@@ -166,10 +172,10 @@ module _ {es : List Entry} {n : ℕ} {base out : List ℕ} {at : ℕ} {left : Li
   fits : ltb v (2 ^ w) ≡ true
   fits = lt-ltb v (2 ^ w) (rw ev (small o ew))
 
-  bits-after : bitsOf after ≡ over (bitsOf out) at w v
+  pub bits-after : bitsOf after ≡ over (bitsOf out) at w v
   bits-after = ap bitsOf (p .contents) ∙ bitsOf-putAt out at w v (narrow o ew) inside fits
 
-  length-after : length after ≡ length base
+  pub length-after : length after ≡ length base
   length-after =
       let h : 8 * length after ≡ 8 * length out =
       sym (length-bitsOf after) ∙ ap length bits-after ∙ length-over (bitsOf out) at w v inside-bits ∙ length-bitsOf out in
@@ -186,20 +192,25 @@ module _ {es : List Entry} {n : ℕ} {base out : List ℕ} {at : ℕ} {left : Li
       ∙ ap (λ (xs : List ℕ). stored (bitsOf out) xs at) (bits-front o ew ∙ ap (λ (u : ℕ). digits w u ++ bits (restDue o)) (sym ev))
       ∙ stored-over (bitsOf out) at w v inside-bits (bits (restDue o))
 
-  -- after the last the bytes are the telegram's
+  -- after the last the bits are the telegram's, and behind them what was there
+  pub laid-all : restDue o ≡ [] → after ≡ bytesOf (bits es ++ drop n (bitsOf base))
+  laid-all m =
+      p .contents
+      ∙ put-writes out at w v (narrow o ew) inside fits
+      ∙ ap bytesOf
+      (sym
+      (holds-after
+      ∙ ap (λ (l : List Entry). stored (over (bitsOf out) at w v) (bits l) (at + w)) m
+      ∙ stored-none (over (bitsOf out) at w v) (at + w)))
+
+  -- so the bytes are its own, if the last byte was cleared
   pub laid-whole : restDue o ≡ [] → (before : List ℕ) → Below 256 before → base ≡ set before ((n - 1) / 8) 0
       → after ≡ bytesOver (accepted es) before
   laid-whole m before b e =
       let tiles = tiled paper (g .telegram) in
       let within = room paper (g .telegram) in
       let eb : length base ≡ length before = ap length e ∙ length-set before ((n - 1) / 8) 0 in
-      let all-bits : bits es ++ drop n (bitsOf base) ≡ over (bitsOf out) at w v =
-      holds-after
-      ∙ ap (λ (l : List Entry). stored (over (bitsOf out) at w v) (bits l) (at + w)) m
-      ∙ stored-none (over (bitsOf out) at w v) (at + w) in
-      p .contents
-      ∙ put-writes out at w v (narrow o ew) inside fits
-      ∙ ap bytesOf (sym all-bits)
+      laid-all m
       ∙ ap (λ (l : List ℕ). bytesOf (bits es ++ drop n (bitsOf l))) e
       ∙ ap (λ (k : ℕ). bytesOf (bits es ++ drop k (bitsOf (set before ((k - 1) / 8) 0)))) (g .size)
       ∙ bytes-over (bits es) before (below-bits es) b (omega (arith, tiles .all)) (omega (arith, g .room))

@@ -17,9 +17,11 @@ pub mod Taking
 pub mod Filling
 pub mod Laying
 pub mod Storing
+pub mod Patching
 pub mod Retelling
 pub mod Telling
 pub mod Deciding
+pub mod Quieting
 pub mod Checking
 pub mod Writing
 pub mod Normalising

@@ -43,13 +43,13 @@ module _ (s : List ℕ) (n : ℕ) (before : List ℕ) where
         tellable =
             let w = was-accepted counted (checked paper s n) a k p q in
             let g = holds s n (w .entries) (w .is) in
-            record { entries = w .entries; telegram = g .telegram; same = g .same; within = g .within; room = h }
+            record { entries = w .entries; telegram = g .telegram; same = g .same; within = g .within; bytes = g .bytes; clear = g .clear; room = h }
 
         pub normalises-accepted : (after : List ℕ) → Normalised s n before after → Normalise paper s n before (Accepted n) after
         normalises-accepted after f =
             let w = was-accepted counted (checked paper s n) a k p q in
             let g = holds s n (w .entries) (w .is) in
-            let size : n ≡ bitCount (normal (w .entries)) = normal-all {out = before} (record { entries = w .entries; telegram = g .telegram; same = g .same; within = g .within; room = h }) ∙ length-bits (normal (w .entries)) in
+            let size : n ≡ bitCount (normal (w .entries)) = normal-all {out = before} (record { entries = w .entries; telegram = g .telegram; same = g .same; within = g .within; bytes = g .bytes; clear = g .clear; room = h }) ∙ length-bits (normal (w .entries)) in
             record {
               answers = rw (into, w .is) (ap Accepted size);
               contents = rw (into, w .is) (f (w .entries) (g .telegram) (g .same));

@@ -5,7 +5,7 @@ use mathlib.Core.Bool.{Bool}
 use Prim.Native.Nat.{ℕ, suc, _+_, _-_, _/_, _<_, _≤_}
 use native.Mathlib.Nat.{add-zero}
 use native.Mathlib.Omega.{arith}
-use lib.ListN.{length, drop, getD, set, length-drop}
+use lib.ListN.{length, drop, getD, set, length-drop, length-set}
 use lib.Seq.{drop-drop, getD-drop}
 use Rattle.bits.specs.Bits.{Below}
 use Rattle.bits.specs.Put.{Put}
@@ -46,7 +46,7 @@ module _ {vs : List ℕ} {n : ℕ} {out : List ℕ} (s : Storing vs n out) where
         same = s .same;
         left = s .entries;
         onward = onward-first (s .telegram);
-        laid = laid-first out (s .telegram) bits-all (s .room);
+        laid = laid-first (set out ((n - 1) / 8) 0) (s .telegram) bits-all (rw (length-set out ((n - 1) / 8) 0) (s .room));
         ahead = s .same;
         count = omega arith;
       }

@@ -67,7 +67,7 @@ module _ {s : List ℕ} {n : ℕ} {t : Todo} {at : ℕ} {left : List Entry} (a :
     ahead-front : drop at (take n (bitsOf s)) ≡ digits w (valueDue o) ++ bits (restDue o)
     ahead-front = a .ahead ∙ bits-front o ew
 
-    inside : at + w ≤ n
+    pub inside : at + w ≤ n
     inside = front-within s n at w (valueDue o) (bits (restDue o)) (a .within) (positive o ew) ahead-front
 
     -- what taking the field answers

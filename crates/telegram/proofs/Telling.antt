@@ -1,19 +1,21 @@
 -- The second run of the normaliser: what it puts is the normal form of what is left. Assumes nothing.
-use mathlib.Core.Bool.{Bool}
+use mathlib.Core.Bool.{Bool, true}
 use mathlib.Core.Path.{_≡_, refl, sym, ap, ap₂, _∙_, subst}
-use mathlib.Core.List.{List, [], _∷_, append-nil}
-use Prim.Native.Nat.{ℕ, _-_, _/_, _^_, _<_, _≤_}
+use mathlib.Core.List.{List, [], _∷_, _++_, append-nil}
+use Prim.Native.Nat.{ℕ, _+_, _-_, _*_, _^_, _<_, _≤_}
 use native.Mathlib.Omega.{arith}
-use lib.ListN.{length, take, set}
-use lib.Seq.{length-take-le}
+use lib.ListN.{length, take, drop, replicate, length-append, length-drop}
+use lib.Seq.{length-take-le, drop-at}
 use lib.Pow.{pow-mono}
-use Rattle.bits.specs.Bits.{bitsOf, Below}
+use Rattle.bits.specs.Bits.{digits, bitsOf, bytesFor, bytesOf, Below}
 use Rattle.bits.specs.Put.{Put}
-use Rattle.bits.specs.Take.{takeAt}
+use Rattle.bits.specs.Take.{fieldBits, takeAt}
 use Rattle.bits.specs.declared.Cursor.{Cursor}
 use Rattle.bits.specs.declared.Taken.{Taken}
 use Rattle.bits.specs.declared.Taken.the-variants.{Field}
-use Rattle.bits.proofs.Bytes.{length-bitsOf}
+use Rattle.bits.proofs.Bytes.{length-bitsOf, length-bytesOf, below-drop}
+use Rattle.bits.proofs.Digits.{digits-valueOf-at}
+use Rattle.bits.proofs.Fields.{taken, below-fieldBits, length-fieldBits}
 use Rattle.distance.specs.Distance.{numberOf}
 use Rattle.distance.specs.declared.Scale.{Scale}
 use Rattle.format.specs.Normal.{View, viewOf, view, choose, decimetres, steps, best, put, normalUnder, normal}
@@ -25,6 +27,7 @@ use Rattle.laws.proofs.Exchange.{scale-still}
 use Rattle.format.specs.Table.{fieldAt}
 use Rattle.format.specs.Telegrams.{Entry, entry, bits, Telegram}
 use Rattle.format.specs.Telegrams.Result.{accepted}
+use Rattle.laws.proofs.Demand2.{below-bits}
 use Rattle.laws.proofs.Demand3.{normal-accepted, normal-size}
 use Rattle.laws.proofs.Kept.{run-normal, tells-next}
 use Rattle.laws.proofs.Prefix.{bits-no-prefix}
@@ -32,15 +35,16 @@ use Rattle.laws.proofs.Told.{AllFair, fair, Told, told-steps, Tells, chooseT, t
 use Rattle.laws.proofs.Views.{normal-none}
 use Rattle.telegram.specs.Along.{Onward, Along}
 use Rattle.telegram.specs.Machine.{Advanced}
-use Rattle.telegram.specs.Normaliser.{Telling, Normalised, Sendable, converted}
+use Rattle.telegram.specs.Normaliser.{Telling, Patching, Normalised, Sendable, converted}
 use Rattle.telegram.specs.Writer.{bytesOver}
 use Rattle.telegram.specs.declared.normaliser.Retold.{Retold}
 use Rattle.telegram.specs.declared.todo.Todo.{Todo}
 use Rattle.telegram.specs.declared.todo.Ahead.{Ahead}
 use Rattle.telegram.specs.declared.todo.Ahead.the-variants.{On, Mark}
 use Rattle.telegram.proofs.Distances.{named-view, measures-narrow, converted-told}
-use Rattle.telegram.proofs.Laying.{Laid, laid-first, same-size, laid-whole, laid-on}
+use Rattle.telegram.proofs.Laying.{Laid, bytes-behind, few-bits, laid-first, inside, bits-after, length-after, drop-behind, laid-all, laid-on}
 use Rattle.telegram.proofs.Moves.{due-right}
+use Rattle.telegram.proofs.Patching.{Yet, put-same, yet-field, yet-past, yet-put, copy-yet, copy-behind}
 use Rattle.telegram.proofs.Runs.{held, valueDue, restDue, nothing-left, at-end, small}
 use Rattle.telegram.proofs.Taking.{along-first, next-at, value-is, along-next}
 use Rattle.telegram.specs.Normaliser as normaliser
@@ -111,8 +115,11 @@ pub record Retelling (s : List ℕ) (n : ℕ) (base out : List ℕ) (t : Todo) (
   pub along : Along s n t at left
   -- the scales can tell it
   pub tells : Tells (numberOf q) (numberOf r) left
-  -- and what is stored
+  -- what is stored
   pub laid : Laid (normal entries) n base out at (normalUnder (numberOf q) (numberOf r) left)
+  -- and what is not yet told stands there as it was sent
+  pub yet : Yet s n out at
+  pub bytes : Below 256 out
 
 module _ {s : List ℕ} {n : ℕ} {out : List ℕ} (f : Telling s n out) where
   pub bits-all : n ≡ length (bits (f .entries))
@@ -121,21 +128,58 @@ module _ {s : List ℕ} {n : ℕ} {out : List ℕ} (f : Telling s n out) where
   pub normal-all : n ≡ length (bits (normal (f .entries)))
   normal-all = bits-all ∙ sym (normal-size (f .entries))
 
-  -- before the first field
-  pub retelling-first : (q : Scale) → numberOf q ≡ 0
-      → Retelling s n (set out ((n - 1) / 8) 0) (set out ((n - 1) / 8) 0) (record { node = 1; left = 0; outer = 0 }) 0 q q
-  retelling-first q z =
-      record {
-        entries = f .entries;
-        telegram = f .telegram;
-        same = f .same;
-        left = f .entries;
-        along = along-first s n (f .telegram) (f .same) (f .within);
-        tells = tells-same (numberOf q) (f .entries) (fair (f .telegram));
-        laid =
-            subst (λ k. Laid (normal (f .entries)) n (set out ((n - 1) / 8) 0) (set out ((n - 1) / 8) 0) 0 (normalUnder k k (f .entries))) (sym z)
-            (laid-first out (normal-accepted paper (f .telegram)) normal-all (f .room));
-      }
+  -- the bytes of the telegram are no more than are lent
+  pub fits-in : length s ≤ length out
+  fits-in = let few = few-bits (f .telegram) bits-all in omega (arith, f .bytes, f .room)
+
+  -- copied, it stands in front of what was behind it
+  module _ {copied : List ℕ} (c : copied ≡ s ++ drop (length s) out) where
+    length-copied : length copied ≡ length out
+    length-copied =
+        let k = length-append s (drop (length s) out) in
+        let d = length-drop (length s) out in
+        let l = fits-in in
+        ap length c ∙ omega arith
+
+    pub patchable : Patching s n copied
+    patchable =
+        record {
+          telling = record { entries = f .entries; telegram = f .telegram; same = f .same; within = f .within; bytes = f .bytes; clear = f .clear; room = rw length-copied (f .room) };
+          rest = drop (length s) out;
+          front = c;
+        }
+
+    -- what is told over the copy is told over what was there: the bytes behind are the same
+    pub told-over : {after : List ℕ} → Normalised s n copied after → Normalised s n out after
+    told-over t es tel e =
+        let size : length (bytesOf (bits (normal es))) ≡ length s =
+        length-bytesOf (bits (normal es))
+        ∙ ap bytesFor (normal-size es ∙ ap length (sym e) ∙ length-take-le n (bitsOf s) (rw (length-bitsOf s) (f .within)))
+        ∙ sym (f .bytes) in
+        t es tel e
+        ∙ ap (λ (x : List ℕ). bytesOf (bits (normal es)) ++ x)
+        (ap₂ (λ (k : ℕ) (x : List ℕ). drop k x) size c
+        ∙ drop-at s (drop (length s) out) (length s) refl
+        ∙ ap (λ (k : ℕ). drop k out) (sym size))
+
+-- before the first field
+pub retelling-first : {s : List ℕ} {n : ℕ} {out : List ℕ} → Patching s n out → Below 256 out → (q : Scale) → numberOf q ≡ 0
+    → Retelling s n out out (record { node = 1; left = 0; outer = 0 }) 0 q q
+retelling-first {s} {n} {out} p b q z =
+    let f = p .telling in
+    record {
+      entries = f .entries;
+      telegram = f .telegram;
+      same = f .same;
+      left = f .entries;
+      along = along-first s n (f .telegram) (f .same) (f .within);
+      tells = tells-same (numberOf q) (f .entries) (fair (f .telegram));
+      laid =
+          subst (λ k. Laid (normal (f .entries)) n out out 0 (normalUnder k k (f .entries))) (sym z)
+          (laid-first out (normal-accepted paper (f .telegram)) (normal-all f) (f .room));
+      yet = subst (λ (x : List ℕ). Yet s n x 0) (sym (p .front)) (copy-yet s n (p .rest) (f .within));
+      bytes = b;
+    }
 
 module _ {s : List ℕ} {n : ℕ} {base out : List ℕ} {t : Todo} {at : ℕ} {q r : Scale} (g : Retelling s n base out t at q r) where
   abbrev o : Onward t at (g .left)
@@ -174,10 +218,17 @@ module _ {s : List ℕ} {n : ℕ} {base out : List ℕ} {t : Todo} {at : ℕ} {q
       converted-told q r v₀ c (omega arith) (x .0 .exact) ∙ sym (told-steps (x .0))
 
   -- the telegram in hand is any with these bits
-  normalised-by : (before : List ℕ) {after : List ℕ} → after ≡ bytesOver (accepted (normal (g .entries))) before → Normalised s n before after
-  normalised-by before h es tel e =
+  normalised-by : {after : List ℕ} → after ≡ bytesOver (accepted (normal (g .entries))) base → Normalised s n base after
+  normalised-by h es tel e =
       let one = bits-no-prefix paper tel (g .telegram) [] (append-nil (bits es) ∙ sym e ∙ g .same) in
-      h ∙ ap (λ (x : List Entry). bytesOver (accepted (normal x)) before) (sym (one .0))
+      h ∙ ap (λ (x : List Entry). bytesOver (accepted (normal x)) base) (sym (one .0))
+
+  -- out is as long as it was, and has room for the n bits
+  pub size-kept : length out ≡ length base
+  size-kept = g .laid .keeps
+
+  wide : n ≤ 8 * length out
+  wide = let few = few-bits (g .laid .telegram) (g .laid .size) in omega (arith, g .laid .keeps, g .laid .room)
 
   -- a field is taken
   module _ {w : ℕ} (ew : w ≡ fieldAt (t .node) .width) {found : Taken} (er : found ≡ takeAt s n w at)
@@ -192,8 +243,25 @@ module _ {s : List ℕ} {n : ℕ} {base out : List ℕ} {t : Todo} {at : ℕ} {q
           known = λ es h. rw due-value (fair-front .0 .known (view-due o ∙ scale-still (fieldAt (t .node) .sense) v₀ v es es₀ h));
         }
 
+    inside-n : at + w ≤ n
+    inside-n = taken s n w at v d (sym er ∙ ed) .within
+
+    -- it stands there already
+    stands : take w (drop at (bitsOf out)) ≡ digits w v
+    stands =
+        let f = taken s n w at v d (sym er ∙ ed) in
+        yet-field s n out at w (g .along .within) wide (g .yet) (f .within)
+        ∙ sym (digits-valueOf-at w (fieldBits s w at) (below-fieldBits s w at) (length-fieldBits s w at (omega (arith, f .within, f .room))))
+        ∙ ap (digits w) (sym (f .value))
+
+    -- so that to put it would change nothing
+    stays : Put out at w v true out
+    stays =
+        let f = taken s n w at v d (sym er ∙ ed) in
+        put-same out at w v (g .bytes) (f .narrow) (omega (arith, f .within, wide)) (f .small) stands
+
     -- after the end mark the bytes are the normal form's
-    module _ {x : Ahead} (a : Advanced t v x) (m : x ≡ Mark) {wrote : Bool} {after : List ℕ} (p : Put out at w v wrote after) where
+    module _ {x : Ahead} (a : Advanced t v x) (m : x ≡ Mark) where
       mark-kept : view (firstDue o) es₀ ≡ kept
       mark-kept = named-view (o .state .todo) v₀ es₀ ∙ ap (λ i. viewOf (due i .sense) v₀ es₀) (at-end o ew due-value a m)
 
@@ -209,11 +277,23 @@ module _ {s : List ℕ} {n : ℕ} {base out : List ℕ} {t : Todo} {at : ℕ} {q
           ∙ ap (normalUnder (fromNext o (numberOf q) (numberOf r)) (toNext o (numberOf q) (numberOf r))) (nothing-left o ew due-value a m)
           ∙ normal-none _ _
 
-      pub mark-size : (before : List ℕ) → base ≡ set before ((n - 1) / 8) 0 → length after ≡ length before
-      mark-size before e = same-size (g .laid) toldOn ew mark-value p before e
-
-      pub tells-all : (before : List ℕ) → Below 256 before → base ≡ set before ((n - 1) / 8) 0 → Normalised s n before after
-      tells-all before b e = normalised-by before (laid-whole (g .laid) toldOn ew mark-value p mark-rest before b e)
+      pub tells-all : Patching s n base → Below 256 base → Normalised s n base out
+      tells-all p b =
+          let e : length (bits (normal (g .entries))) ≡ n = sym (g .laid .size) in
+          let f = p .telling in
+          let behind : drop (length (bits (normal (g .entries)))) (bitsOf base) ≡ replicate (8 * bytesFor (length (bits (normal (g .entries)))) - length (bits (normal (g .entries)))) 0 ++ bitsOf (p .rest) =
+          ap (λ (x : List ℕ). drop (length (bits (normal (g .entries)))) (bitsOf x)) (p .front)
+          ∙ rw e (copy-behind s n (p .rest) (f .within) (f .bytes) (f .clear)) in
+          let rest-is : p .rest ≡ drop (length (bytesOf (bits (normal (g .entries))))) base =
+          sym
+          (ap₂ (λ (k : ℕ) (x : List ℕ). drop k x) (length-bytesOf (bits (normal (g .entries))) ∙ ap bytesFor e ∙ sym (f .bytes)) (p .front)
+          ∙ drop-at s (p .rest) (length s) refl) in
+          let below-rest : Below 256 (p .rest) = subst (Below 256) (sym rest-is) (below-drop 256 (length (bytesOf (bits (normal (g .entries))))) base b) in
+          normalised-by
+          (laid-all (g .laid) toldOn ew mark-value stays mark-rest
+          ∙ ap (λ (k : ℕ). bytesOf (bits (normal (g .entries)) ++ drop k (bitsOf base))) (g .laid .size)
+          ∙ bytes-behind (bits (normal (g .entries))) base (p .rest) (below-bits (normal (g .entries))) below-rest behind
+          ∙ ap (λ (x : List ℕ). bytesOf (bits (normal (g .entries))) ++ x) rest-is)
 
     -- after another field the run goes on with the scales that hold then
     module _ {x : Ahead} {u : Todo} (a : Advanced t v x) (m : x ≡ On u) where
@@ -238,11 +318,8 @@ module _ {s : List ℕ} {n : ℕ} {base out : List ℕ} {t : Todo} {at : ℕ} {q
             ∙ told-value o (numberOf q) (numberOf r) (g .tells)
 
         module _ {wrote : Bool} {after : List ℕ} (p : Put out at w (y .value) wrote after) where
-          pub then-size : (before : List ℕ) → base ≡ set before ((n - 1) / 8) 0 → length after ≡ length before
-          then-size before e = same-size (g .laid) toldOn ew sent-is p before e
-
-          pub tells-on : Retelling s n base after u (d .at) (y .from) (y .to)
-          tells-on =
+          tells-put : Below 256 after → Yet s n after (at + w) → Retelling s n base after u (d .at) (y .from) (y .to)
+          tells-put b yet =
               record {
                 entries = g .entries;
                 telegram = g .telegram;
@@ -255,4 +332,21 @@ module _ {s : List ℕ} {n : ℕ} {base out : List ℕ} {t : Todo} {at : ℕ} {q
                 laid =
                     rw (from-is, to-is, next-at (g .along) ew er ed)
                     (laid-on (g .laid) toldOn ew sent-is p (told-rest o (numberOf q) (numberOf r) (g .tells)));
+                yet = rw (next-at (g .along) ew er ed) yet;
+                bytes = b;
               }
+
+          -- it is put
+          pub tells-on : Below 256 after → Retelling s n base after u (d .at) (y .from) (y .to)
+          tells-on b =
+              let same-behind : drop (at + w) (bitsOf after) ≡ drop (at + w) (bitsOf out) =
+              ap (drop (at + w)) (bits-after (g .laid) toldOn ew sent-is p) ∙ drop-behind (bitsOf out) at w (y .value) (rw (length-bitsOf out) (inside (g .laid) toldOn ew sent-is p)) in
+              tells-put b
+              (yet-put s n out after at w wide (length-after (g .laid) toldOn ew sent-is p ∙ sym (g .laid .keeps)) inside-n same-behind
+              (yet-past s n out at w (g .along .within) wide (g .yet)))
+
+        -- it is sent as it is, and stays
+        pub tells-same-value : y .value ≡ v → Retelling s n base out u (d .at) (y .from) (y .to)
+        tells-same-value e =
+            tells-put (subst (λ (z : ℕ). Put out at w z true out) (sym e) stays) (g .bytes)
+            (yet-past s n out at w (g .along .within) wide (g .yet))

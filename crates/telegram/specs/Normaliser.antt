@@ -1,15 +1,15 @@
 -- Document 01, "Distances and the normal form": what normalising answers, and what the lent bytes then hold. Definitions alone.
 use mathlib.Core.Path.{_≡_}
-use mathlib.Core.Bool.{Bool, cond, _&&_}
-use mathlib.Core.List.{List}
+use mathlib.Core.Bool.{Bool, true, cond, _&&_}
+use mathlib.Core.List.{List, _++_}
 use Prim.Native.Nat.{ℕ, _*_, _%_, _^_, _<_, _≤_}
 use lib.Dec.{eqb, leb, ltb}
 use lib.ListN.{length, take}
-use Rattle.bits.specs.Bits.{bitsOf}
+use Rattle.bits.specs.Bits.{bitsOf, bytesFor}
 use Rattle.format.specs.Normal.{viewOf, choose, decimetres, steps, best, normal}
 use Rattle.format.specs.Normal.View.{kept, scales, measures}
 use Rattle.format.specs.Rules.{Terms, paper}
-use Rattle.format.specs.Table.{fieldAt}
+use Rattle.format.specs.Table.{fieldAt, codeOf}
 use Rattle.format.specs.Telegrams.{Entry, Result, Telegram, bits}
 use Rattle.format.specs.Telegrams.Result.{accepted, refused}
 use Rattle.format.specs.declared.Kind.the-variants.{Room}
@@ -17,7 +17,7 @@ use Rattle.format.specs.declared.Answer.{Answer}
 use Rattle.distance.specs.Distance.{numberOf, inDecimetres, inSteps}
 use Rattle.distance.specs.declared.Scale.{Scale}
 use Rattle.distance.specs.declared.Told.the-variants.{Whole, Not}
-use Rattle.telegram.specs.Reader.{checked, atOnce}
+use Rattle.telegram.specs.Reader.{clear, checked, atOnce}
 use Rattle.telegram.specs.Writer.{sizeOf, bytesOver}
 use Rattle.telegram.specs.declared.views.View.{View}
 use Rattle.telegram.specs.declared.views.View.the-variants.{Kept, Scales, Measures}
@@ -48,7 +48,19 @@ pub record Telling (s : List ℕ) (n : ℕ) (out : List ℕ) : Type 0 where
   pub telegram : Telegram paper entries
   pub same : take n (bitsOf s) ≡ bits entries
   pub within : n ≤ 8 * length s
+  pub bytes : length s ≡ bytesFor n
+  pub clear : clear s n ≡ true
   pub room : 104 ≤ length out
+
+-- the same, where the telegram stands in front of what is lent
+pub record Patching (s : List ℕ) (n : ℕ) (out : List ℕ) : Type 0 where
+  pub telling : Telling s n out
+  pub rest : List ℕ
+  pub front : out ≡ s ++ rest
+
+-- a field that is sent as it is, whatever it holds
+abbrev pub Quiet : ℕ → Type 0
+Quiet k = codeOf (fieldAt k .sense) ≡ 0
 
 -- the bytes of that telegram's normal form stand in front, and behind them is what was there
 abbrev pub Normalised : List ℕ → ℕ → List ℕ → List ℕ → Type 0

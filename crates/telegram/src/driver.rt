@@ -80,7 +80,7 @@ pub(crate) fn idle(rows: &[u32; 213], t: Todo) -> bool
 }
 
 // What is to be sent after such a field.
-fn later(rows: &[u32; 213], t: Todo) -> Todo
+pub(crate) fn later(rows: &[u32; 213], t: Todo) -> Todo
     requires { ⌜ InTable (now rows) (t .node) × Idle t ⌝ }
     ensures { λ r. ⌜ r ≡ later t ⌝ }
 {

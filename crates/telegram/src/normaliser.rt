@@ -3,16 +3,23 @@
 // A refusal changes no output, so normalising checks first, and tells in a second run, which follows the rows alone. At a scale the run
 // looks ahead, up to the next one, whether every distance is a whole number of metres that fits its field.
 ghost use mathlib.Core.Path.{_≡_};
+ghost use mathlib.Core.Bool.{true};
+ghost use mathlib.Core.List.{_++_};
 ghost use Prim.Native.Nat.{_^_, _<_, _≤_};
+ghost use lib.ListN.{length, drop};
 ghost use Rattle.distance.specs.Distance.{numberOf};
 ghost use Rattle.format.specs.Normal.{metric};
 ghost use Rattle.format.specs.Rules.{paper};
 ghost use Rattle.format.specs.Table.{words, fieldAt};
 ghost use Rattle.telegram.specs.Along.{Some, Whichever};
-ghost use Rattle.telegram.specs.Machine.{InTable};
-ghost use Rattle.telegram.specs.Normaliser.{Normalise, Telling, Normalised, converted, inMetres, Rescaled, Tells, Sendable, Looked};
+ghost use Rattle.telegram.specs.Machine.{InTable, Idle};
+ghost use Rattle.telegram.specs.Normaliser.{Normalise, Telling, Patching, Quiet, Normalised, converted, inMetres, Rescaled, Tells, Sendable, Looked};
 use crate::answer::refuse;
+use crate::driver::idle;
+use crate::driver::later;
 use crate::reader::check;
+use crate::rows::ANY;
+use crate::rows::code;
 use crate::rows::width;
 use crate::todo::Ahead;
 use crate::todo::Todo;
@@ -59,14 +66,34 @@ pub fn normalise(s: &[u8], n: usize, out: &mut [u8]) -> Answer
     Answer::Accepted(n)
 }
 
-// Stores the n bits of the normal form. The last byte is cleared first, so that its unused low bits are 0.
+// Stores the normal form: most of its fields are sent as they are, so the telegram is copied and what changes is put over it.
 fn tell(s: &[u8], n: usize, out: &mut [u8])
     requires { ⌜ Telling (now s) n (now out) ⌝ }
     ensures { λ r. ⌜ Normalised (now (s .entry)) n (now (out .entry)) (now (out .exit)) ⌝ }
 {
+    copy(s, out);
+    patch(s, n, out);
+}
+
+// Copies s to the front of out.
+fn copy(s: &[u8], out: &mut [u8])
+    requires { ⌜ length (now s) ≤ length (now out) ⌝ }
+    ensures { λ r. ⌜ now (out .exit) ≡ now (s .entry) ++ drop (length (now (s .entry))) (now (out .entry)) ⌝ }
+{
+    let mut i = 0;
+    while i < s.len() {
+        out[i] = s[i];
+        i += 1;
+    }
+}
+
+// Puts over a telegram that stands in front of out what its normal form has otherwise. A field that is no scale and no distance, and
+// decides nothing of what follows, is passed.
+fn patch(s: &[u8], n: usize, out: &mut [u8])
+    requires { ⌜ Patching (now s) n (now out) ⌝ }
+    ensures { λ r. ⌜ Normalised (now (s .entry)) n (now (out .entry)) (now (out .exit)) ⌝ }
+{
     let rows = table::rows();
-    let last = (n - 1) / 8;
-    out[last] = 0;
     let mut t = Todo {
         node: 1,
         left: 0,
@@ -79,20 +106,37 @@ fn tell(s: &[u8], n: usize, out: &mut [u8])
         let k = t.node;
         let w = width(&rows, k);
         let at = c.at;
+        if quiet(&rows, t) {
+            t = later(&rows, t);
+            c = Cursor { at: at + w };
+            continue;
+        }
         let Taken::Field(v, next) = c.take(s, n, w) else {
             return;
         };
         let Ahead::On(u) = advance(&rows, t, v) else {
-            bits::put(out, at, w, v);
             return;
         };
         let x = retell(&rows, s, n, k, v, u, next, from, to);
-        bits::put(out, at, w, x.value);
+        if x.value != v {
+            bits::put(out, at, w, x.value);
+        }
         t = u;
         c = next;
         from = x.from;
         to = x.to;
     }
+}
+
+// Whether the field that is due may hold anything, is no distance, and another is due after it.
+fn quiet(rows: &[u32; 213], t: Todo) -> bool
+    requires { ⌜ InTable (now rows) (t .node) ⌝ }
+    ensures { λ r. ⌜ (r ≡ true → Idle t × Quiet (t .node)) ⌝ }
+{
+    if code(rows, t.node) != ANY {
+        return false;
+    }
+    idle(rows, t)
 }
 
 // What is sent for the value v of row k, before what u says is to be sent from the cursor on.
@@ -169,6 +213,11 @@ fn metric(rows: &[u32; 213], s: &[u8], n: usize, q: Scale, first: Todo, start: C
     loop {
         let k = t.node;
         let w = width(rows, k);
+        if quiet(rows, t) {
+            t = later(rows, t);
+            c = Cursor { at: c.at + w };
+            continue;
+        }
         let Taken::Field(v, next) = c.take(s, n, w) else {
             return true;
         };

@@ -16,6 +16,8 @@ pub(crate) const SEND: u32 = 2;
 pub(crate) const TIMES: u32 = 5;
 
 // The codes of fields, as the table has them. Below SIZE a value may be anything and nothing is kept of it.
+pub(crate) const ANY: u32 = 0;
+
 pub(crate) const DISTANCE: u32 = 1;
 
 pub(crate) const TEXT: u32 = 2;
