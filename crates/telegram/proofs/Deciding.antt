@@ -36,7 +36,7 @@ use Rattle.telegram.proofs.Distances.{text-narrow, scale-two}
 use Rattle.telegram.proofs.Moves.{due-right}
 use Rattle.telegram.proofs.Runs.{held, valueDue, restDue, small, nothing-left}
 use Rattle.telegram.proofs.Taking.{value-is, along-next}
-use Rattle.telegram.proofs.Telling.{firstDue, view-due}
+use Rattle.telegram.proofs.Sending.{firstDue, view-due}
 use Rattle.telegram.specs.Normaliser as normaliser
 use Rattle.telegram.specs.declared.views.View as views
 

@@ -8,7 +8,7 @@ use borrow.Author.Tests.{eqb-true, eqb-false}
 use lib.Dec.{eqb}
 use lib.ListN.{length}
 use Rattle.format.specs.Table.{act, jump, fieldAt, codeOf}
-use Rattle.telegram.specs.Machine.{contextOf, Tidy, Idle, later, beyond, Advanced, Noted, Sound, Judged, Entered, Stepped}
+use Rattle.telegram.specs.Machine.{contextOf, Tidy, Idle, later, beyond, Advanced, Noted, Sound, Judged, Entered}
 use Rattle.telegram.specs.Seen.{Passed, Noticed}
 use Rattle.telegram.specs.declared.state.State.{State}
 use Rattle.telegram.specs.declared.machine.Outcome.the-variants.{Go}

@@ -1,4 +1,5 @@
 -- What the code stands on, by what it is about.
+pub mod Shapes
 pub mod Moves
 pub mod Advancing
 pub mod Places
@@ -19,6 +20,7 @@ pub mod Laying
 pub mod Storing
 pub mod Patching
 pub mod Retelling
+pub mod Sending
 pub mod Telling
 pub mod Deciding
 pub mod Quieting

@@ -7,9 +7,8 @@ use Prim.Native.Nat.{ℕ, zero, suc, _+_, _-_, _*_, _/_, _%_, _^_, _<_, _≤_}
 use native.Mathlib.Nat.{zero-div}
 use native.Mathlib.Omega.{arith}
 use borrow.Author.Tests.{le-leb, lt-ltb, eqb-true}
-use lib.Dec.{leb, ltb, eqb}
-use lib.ListN.{length, take, drop, replicate, take-append-drop, length-drop, length-append}
-use lib.Seq.{take-at, drop-at, take-add, take-take, drop-drop, drop-append-le, length-take-le}
+use lib.ListN.{length, take, drop, replicate, take-append-drop, length-drop}
+use lib.Seq.{take-at, drop-at, take-add, drop-drop, drop-append-le, length-take-le}
 use Rattle.bits.specs.Bits.{digits, valueOf, bitsOf, bytesFor, bytesOf, Below}
 use Rattle.bits.specs.Put.{over, writable, bytesIf, putAt, Put}
 use Rattle.bits.proofs.Digits.{digits-valueOf-at}

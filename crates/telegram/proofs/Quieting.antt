@@ -1,7 +1,7 @@
 -- A field that is sent as it is, whatever it holds, and after which another is due: the normal form and what decides it go on behind it.
 -- Assumes nothing.
 use mathlib.Core.List.{List}
-use mathlib.Core.Path.{_≡_, refl, sym, ap, _∙_}
+use mathlib.Core.Path.{_≡_, refl, sym, ap}
 use Prim.Native.Nat.{ℕ, _+_, _-_, _<_}
 use native.Mathlib.Omega.{arith}
 use Rattle.bits.specs.Bits.{valueOf}
@@ -16,7 +16,6 @@ use Rattle.format.specs.Telegrams.{Entry}
 use Rattle.telegram.specs.Along.{Along}
 use Rattle.telegram.specs.Machine.{Idle, later}
 use Rattle.telegram.specs.Normaliser.{Quiet, lookOf, inMetres, Looked}
-use Rattle.telegram.specs.declared.normaliser.Look.{Look}
 use Rattle.telegram.specs.declared.normaliser.Look.the-variants.{Passes}
 use Rattle.telegram.specs.declared.todo.Todo.{Todo}
 use Rattle.telegram.proofs.Deciding.{Deciding, deciding-on}

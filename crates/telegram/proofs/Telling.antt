@@ -25,11 +25,11 @@ use Rattle.format.specs.Packets.Items.{end}
 use Rattle.laws.proofs.Sources.{width-named}
 use Rattle.laws.proofs.Exchange.{scale-still}
 use Rattle.format.specs.Table.{fieldAt}
-use Rattle.format.specs.Telegrams.{Entry, entry, bits, Telegram}
+use Rattle.format.specs.Telegrams.{Entry, bits, Telegram}
 use Rattle.format.specs.Telegrams.Result.{accepted}
 use Rattle.laws.proofs.Demand2.{below-bits}
 use Rattle.laws.proofs.Demand3.{normal-accepted, normal-size}
-use Rattle.laws.proofs.Kept.{run-normal, tells-next}
+use Rattle.laws.proofs.Kept.{tells-next}
 use Rattle.laws.proofs.Prefix.{bits-no-prefix}
 use Rattle.laws.proofs.Told.{AllFair, fair, Told, told-steps, Tells, chooseT, tells-same}
 use Rattle.laws.proofs.Views.{normal-none}
@@ -46,62 +46,9 @@ use Rattle.telegram.proofs.Laying.{Laid, bytes-behind, few-bits, laid-f
 use Rattle.telegram.proofs.Moves.{due-right}
 use Rattle.telegram.proofs.Patching.{Yet, put-same, yet-field, yet-past, yet-put, copy-yet, copy-behind}
 use Rattle.telegram.proofs.Runs.{held, valueDue, restDue, nothing-left, at-end, small}
+use Rattle.telegram.proofs.Sending.{firstDue, view-due, fromNext, toNext, told-onward, told-value, told-rest}
 use Rattle.telegram.proofs.Taking.{along-first, next-at, value-is, along-next}
 use Rattle.telegram.specs.Normaliser as normaliser
-
--- ---- the first of the entries that are left
-
-module _ {t : Todo} {at : ℕ} {left : List Entry} (o : Onward t at left) where
-  abbrev pub firstDue : Entry
-  firstDue = entry (o .state) (valueDue o)
-
-  -- how it counts is how the field of the row does
-  pub view-due : view firstDue (restDue o) ≡ viewOf (fieldAt (t .node) .sense) (valueDue o) (restDue o)
-  view-due =
-      named-view (o .state .todo) (valueDue o) (restDue o)
-      ∙ ap (λ f. viewOf (f .sense) (valueDue o) (restDue o)) (ap due (o .todo) ∙ sym (due-right t (o .tidy)))
-
--- ---- told under the scales q and r
-
-module _ {t : Todo} {at : ℕ} {left : List Entry} (o : Onward t at left) (q r : ℕ) where
-  abbrev k : View
-  k = view (firstDue o) (restDue o)
-
-  -- what is sent for it, and the scales after it
-  abbrev pub sentFor : ℕ
-  sentFor = choose k (valueDue o) (best (valueDue o) (restDue o)) (steps r (decimetres q (valueDue o)))
-
-  abbrev pub fromNext : ℕ
-  fromNext = choose k q (valueDue o) q
-
-  abbrev pub toNext : ℕ
-  toNext = choose k r (best (valueDue o) (restDue o)) r
-
-  normal-front : normalUnder q r left ≡ put (firstDue o) sentFor ∷ normalUnder fromNext toNext (restDue o)
-  unfolding normalUnder
-  normal-front = ap (normalUnder q r) (held (o .run) .front)
-
-  module _ (h : Tells q r left) where
-    -- the normal form of what is left can be sent from here too
-    pub told-onward : Onward t at (normalUnder q r left)
-    told-onward = record { state = o .state; run = run-normal (o .run) q r h; here = o .here; todo = o .todo; tidy = o .tidy }
-
-    told-front : put (firstDue o) sentFor ∷ normalUnder fromNext toNext (restDue o) ≡ firstDue told-onward ∷ restDue told-onward
-    told-front = sym normal-front ∙ held (told-onward .run) .front
-
-    pub told-value : sentFor ≡ valueDue told-onward
-    told-value = ap first told-front
-      where
-        first : List Entry → ℕ
-        first [] = 0
-        first (e ∷ es) = e .value
-
-    pub told-rest : restDue told-onward ≡ normalUnder fromNext toNext (restDue o)
-    told-rest = sym (ap rest told-front)
-      where
-        rest : List Entry → List Entry
-        rest [] = []
-        rest (e ∷ es) = es
 
 -- ---- a turn
 
