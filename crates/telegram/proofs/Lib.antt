@@ -12,6 +12,8 @@ pub mod Directions
 pub mod Idling
 pub mod Driving
 pub mod Scanning
+pub mod Grouping
+pub mod Spans
 pub mod Measuring
 pub mod Runs
 pub mod Taking

@@ -3,7 +3,7 @@ use mathlib.Core.Path.{_≡_}
 use mathlib.Core.Bool.{true, false, Bool, cond}
 use mathlib.Core.List.{List, [], _∷_}
 use mathlib.Core.Option.{Option, some, none}
-use Prim.Native.Nat.{ℕ, suc, _+_, _-_, _^_, _<_, _≤_}
+use Prim.Native.Nat.{ℕ, zero, suc, _+_, _-_, _*_, _^_, _<_, _≤_}
 use lib.Dec.{eqb}
 use lib.ListN.{getD}
 use Rattle.format.specs.Fields.{Rule, Sense}
@@ -116,6 +116,49 @@ beyond s w =
       userlong = s .userlong;
       pig = s .pig;
     }
+
+-- ---- groups that no rule reads
+
+-- the bits of m fields from row k on
+abbrev pub widthsFrom : ℕ → ℕ → ℕ
+widthsFrom k zero = 0
+widthsFrom k (suc m) = fieldAt k .width + widthsFrom (k + 1) m
+
+-- the group that begins in row k is so many fields that may hold anything, of so many bits together
+pub record Free (k bits fields : ℕ) : Type 0 where
+  pub some : 0 < fields
+  pub plain : (j : ℕ) → j < fields → (act (k + j) ≡ 2) × (codeOf (fieldAt (k + j) .sense) < 3)
+  pub end : act (k + fields) ≡ 0
+  pub first : jump (k + fields) + 1 ≡ k
+  pub group : 0 < jump (k + fields)
+  pub wide : bits ≡ widthsFrom k fields
+
+-- the state so many bits further, at the last group
+abbrev pub further : State → ℕ → State
+further s bits =
+    record {
+      at = s .at + bits;
+      todo = record { node = s .todo .node; left = 0; outer = s .todo .outer };
+      level = s .level;
+      start = s .start;
+      id = s .id;
+      dir = s .dir;
+      long = s .long;
+      userstart = s .userstart;
+      userlong = s .userlong;
+      pig = s .pig;
+    }
+
+-- that at the last of such groups
+abbrev pub atLast : State → ℕ → State
+atLast s bits = further s (s .todo .left * bits)
+
+-- what is passed unread, up to bit n: nothing, a field, or all groups but the last; the state then, and how many fields they are
+pub data Passing (n : ℕ) (s : State) : State → ℕ → Type 0 where
+  nothing : Passing n s s 0
+  field : Idle (s .todo) → fieldAt (s .todo .node) .width ≤ n - s .at → Passing n s (beyond s (fieldAt (s .todo .node) .width)) 1
+  groups : {bits fields : ℕ} → Free (s .todo .node) bits fields → 0 < s .todo .left → s .todo .left * bits ≤ n - s .at
+      → Passing n s (atLast s bits) (s .todo .left * fields)
 
 -- ---- the context
 

@@ -1,8 +1,8 @@
 // What every driver of the machine does with a value: one field further, with the packets that came before in an array.
 ghost use mathlib.Core.Path.{_≡_};
 ghost use mathlib.Core.Bool.{true};
-ghost use Prim.Native.Nat.{_≤_, _<_};
-ghost use Rattle.telegram.specs.Machine.{InTable, Directing, Idle, later, beyond};
+ghost use Prim.Native.Nat.{_*_, _≤_, _<_};
+ghost use Rattle.telegram.specs.Machine.{InTable, Directing, Idle, later, beyond, Free, further, Passing};
 ghost use Rattle.telegram.specs.Seen.{Turning, Passed, Noticed};
 use crate::earlier::note;
 use crate::earlier::repeated;
@@ -15,6 +15,7 @@ use crate::rows::TEXT;
 use crate::rows::act;
 use crate::rows::code;
 use crate::rows::jump;
+use crate::rows::width;
 use crate::state::Level;
 use crate::state::State;
 use crate::todo::Todo;
@@ -100,7 +101,7 @@ pub(crate) fn later(rows: &[u32; 213], t: Todo) -> Todo
 }
 
 // Where a telegram stands after such a field of w bits.
-pub(crate) fn beyond(rows: &[u32; 213], s: State, w: usize) -> State
+fn beyond(rows: &[u32; 213], s: State, w: usize) -> State
     requires { ⌜ InTable (now rows) (s .todo .node) × Idle (s .todo) × (s .at ≤ 65536) × (w ≤ 64) ⌝ }
     ensures { λ r. ⌜ r ≡ beyond s w ⌝ }
 {
@@ -110,6 +111,109 @@ pub(crate) fn beyond(rows: &[u32; 213], s: State, w: usize) -> State
     State {
         at: s.at + w,
         todo: next,
+        level: l,
+        start: s.start,
+        id: s.id,
+        dir: s.dir,
+        long: s.long,
+        userstart: s.userstart,
+        userlong: s.userlong,
+        pig: s.pig,
+    }
+}
+
+// What was passed unread: the state then, and how many fields it was.
+pub struct Passage {
+    pub state: State,
+    pub fields: usize,
+}
+
+// A group that no rule reads: its bits and its fields; no bits where a rule reads one of them.
+pub struct Extent {
+    pub bits: usize,
+    pub fields: usize,
+}
+
+// Passes what no rule reads, up to bit n: all groups of a list but the last, or a field, or nothing.
+pub(crate) fn pass(rows: &[u32; 213], s: State, n: usize) -> Passage
+    requires { ⌜ InTable (now rows) (s .todo .node) × (s .at ≤ n) × (n ≤ 830) ⌝ }
+    ensures { λ r. ⌜ Passing n s (r .state) (r .fields) ⌝ }
+{
+    let t = s.todo;
+    let k = t.node;
+    let room = n - s.at;
+    let g = span(k);
+    if covered(g, t.left, room) {
+        let left = t.left as usize;
+        return Passage {
+            state: at_last(s, left * g.bits),
+            fields: left * g.fields,
+        };
+    }
+    if idle(rows, t) {
+        let w = width(rows, k);
+        if w <= room {
+            return Passage {
+                state: beyond(rows, s, w),
+                fields: 1,
+            };
+        }
+    }
+    Passage {
+        state: s,
+        fields: 0,
+    }
+}
+
+// The group that begins in row k, if no rule reads it: a gradient, a character of a text, a speed restriction.
+fn span(k: usize) -> Extent
+    ensures { λ r. ⌜ (r .bits ≤ 38) × (r .fields ≤ 4) × (0 < r .bits → Free k (r .bits) (r .fields)) ⌝ }
+{
+    match k {
+        39 => Extent {
+            bits: 24,
+            fields: 3,
+        },
+        128 => Extent { bits: 8, fields: 1 },
+        191 => Extent {
+            bits: 38,
+            fields: 4,
+        },
+        _ => Extent { bits: 0, fields: 0 },
+    }
+}
+
+// Whether there are groups left, and bits enough for all of them.
+fn covered(g: Extent, left: u64, room: usize) -> bool
+    ensures { λ r. ⌜ (r ≡ true → (0 < g .bits) × (0 < left) × (left * g .bits ≤ room)) ⌝ }
+{
+    if g.bits == 0 {
+        return false;
+    }
+    if left == 0 {
+        return false;
+    }
+    if room / g.bits < left as usize {
+        return false;
+    }
+    true
+}
+
+// Where a telegram stands at the last group, so many bits further.
+fn at_last(s: State, bits: usize) -> State
+    requires { ⌜ (s .at ≤ 830) × (bits ≤ 830) ⌝ }
+    ensures { λ r. ⌜ r ≡ further s bits ⌝ }
+{
+    let t = s.todo;
+    let l = s.level;
+    let last = Todo {
+        node: t.node,
+        left: 0,
+        outer: t.outer,
+    };
+    State {
+        at: s.at + bits,
+        todo: last,
         level: l,
         start: s.start,
         id: s.id,

@@ -10,9 +10,8 @@ ghost use Rattle.format.specs.Telegrams as telegrams;
 ghost use Rattle.telegram.specs.Reader.{sized, clear, checked, answerOf, Read};
 ghost use Rattle.telegram.specs.Filling.{Filling, Filled};
 use crate::answer::refuse;
-use crate::driver::beyond;
-use crate::driver::idle;
 use crate::driver::keep;
+use crate::driver::pass;
 use crate::driver::turn;
 use crate::machine::Outcome;
 use crate::rows::width;
@@ -94,18 +93,15 @@ fn scan(s: &[u8], n: usize) -> Answer
     let mut st = begin();
     let mut count: usize = 0;
     loop {
-        let t = st.todo;
-        let k = t.node;
-        let w = width(&rows, k);
-        if idle(&rows, t) {
-            if w <= n - st.at {
-                st = beyond(&rows, st, w);
-                count += 1;
-                continue;
-            }
+        let p = pass(&rows, st, n);
+        if 0 < p.fields {
+            st = p.state;
+            count += p.fields;
+            continue;
         }
+        let t = st.todo;
         let c = Cursor { at: st.at };
-        let Taken::Field(v, next) = c.take(s, n, w) else {
+        let Taken::Field(v, next) = c.take(s, n, width(&rows, t.node)) else {
             return refuse(Kind::Ended, place(Kind::Ended, st, 0));
         };
         match turn(&rows, &seen, met, st, v) {
