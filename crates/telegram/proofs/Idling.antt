@@ -1,14 +1,15 @@
 -- A field that no rule reads is passed: whatever it holds, the definition's step comes to the state beyond it. Assumes nothing.
 use mathlib.Core.Bool.{Bool, true, false, cond}
 use mathlib.Core.List.{List}
-use mathlib.Core.Path.{_≡_, refl}
-use Prim.Native.Nat.{ℕ, _+_, _-_, _^_, _<_}
+use mathlib.Core.Path.{_≡_, refl, ap, subst}
+use Prim.Native.Nat.{ℕ, _+_, _-_, _^_, _<_, _≤_}
 use native.Mathlib.Omega.{arith}
-use borrow.Author.Tests.{eqb-true, eqb-false}
+use borrow.Author.Tests.{eq-eqb, ne-eqb, eqb-true, eqb-false}
 use lib.Dec.{eqb}
 use lib.ListN.{length}
 use Rattle.format.specs.Table.{act, jump, fieldAt, codeOf}
-use Rattle.telegram.specs.Machine.{contextOf, Tidy, Idle, later, beyond, Advanced, Noted, Sound, Judged, Entered}
+use Rattle.telegram.specs.Machine.{contextOf, Tidy, Idle, later, beyond, placed, Passing, Advanced, Noted, Sound, Judged, Entered}
+use Rattle.telegram.specs.Machine.Passing.{field}
 use Rattle.telegram.specs.Seen.{Passed, Noticed}
 use Rattle.telegram.specs.declared.state.State.{State}
 use Rattle.telegram.specs.declared.machine.Outcome.the-variants.{Go}
@@ -81,3 +82,22 @@ module _ (s : State) (d : Sound s) (i : Idle (s .todo)) (v : ℕ) where
 
     pub idle-noticed : met < length seen → v < 2 ^ width → Noticed seen met s v met seen
     idle-noticed h f = notices seen met s v false met seen (directs-not s not-nine) h f (held-none seen met false s v refl)
+
+-- ---- what is passed, by what follows it
+
+module _ (n : ℕ) (s : State) (i : Idle (s .todo)) (h : fieldAt (s .todo .node) .width ≤ n - s .at) where
+  -- the next row
+  pub passes-next : (act (s .todo .node + 1) ≡ 0 → ⊥)
+      → Passing n s (placed s (fieldAt (s .todo .node) .width) (s .todo .node + 1) (s .todo .left)) 1
+  passes-next e =
+      subst (λ (t : Todo). Passing n s (record { at = s .at + fieldAt (s .todo .node) .width; todo = t; level = s .level; start = s .start; id = s .id; dir = s .dir; long = s .long; userstart = s .userstart; userlong = s .userlong; pig = s .pig }) 1)
+      (ap (λ (b : Bool). cond b (record { node = jump (s .todo .node + 1) + 1; left = s .todo .left - 1; outer = s .todo .outer }) (record { node = s .todo .node + 1; left = s .todo .left; outer = s .todo .outer })) (ne-eqb (act (s .todo .node + 1)) 0 e))
+      (field i h)
+
+  -- the group again
+  pub passes-again : act (s .todo .node + 1) ≡ 0
+      → Passing n s (placed s (fieldAt (s .todo .node) .width) (jump (s .todo .node + 1) + 1) (s .todo .left - 1)) 1
+  passes-again e =
+      subst (λ (t : Todo). Passing n s (record { at = s .at + fieldAt (s .todo .node) .width; todo = t; level = s .level; start = s .start; id = s .id; dir = s .dir; long = s .long; userstart = s .userstart; userlong = s .userlong; pig = s .pig }) 1)
+      (ap (λ (b : Bool). cond b (record { node = jump (s .todo .node + 1) + 1; left = s .todo .left - 1; outer = s .todo .outer }) (record { node = s .todo .node + 1; left = s .todo .left; outer = s .todo .outer })) (eq-eqb (act (s .todo .node + 1)) 0 e))
+      (field i h)

@@ -101,6 +101,22 @@ later t =
     cond (eqb (act (t .node + 1)) 0) (record { node = jump (t .node + 1) + 1; left = t .left - 1; outer = t .outer })
     (record { node = t .node + 1; left = t .left; outer = t .outer })
 
+-- the state so many bits further, in row k with so many groups left
+abbrev pub placed : State → ℕ → ℕ → ℕ → State
+placed s bits k left =
+    record {
+      at = s .at + bits;
+      todo = record { node = k; left = left; outer = s .todo .outer };
+      level = s .level;
+      start = s .start;
+      id = s .id;
+      dir = s .dir;
+      long = s .long;
+      userstart = s .userstart;
+      userlong = s .userlong;
+      pig = s .pig;
+    }
+
 -- the state after such a field of w bits
 abbrev pub beyond : State → ℕ → State
 beyond s w =
@@ -133,25 +149,9 @@ pub record Free (k bits fields : ℕ) : Type 0 where
   pub group : 0 < jump (k + fields)
   pub wide : bits ≡ widthsFrom k fields
 
--- the state so many bits further, at the last group
-abbrev pub further : State → ℕ → State
-further s bits =
-    record {
-      at = s .at + bits;
-      todo = record { node = s .todo .node; left = 0; outer = s .todo .outer };
-      level = s .level;
-      start = s .start;
-      id = s .id;
-      dir = s .dir;
-      long = s .long;
-      userstart = s .userstart;
-      userlong = s .userlong;
-      pig = s .pig;
-    }
-
--- that at the last of such groups
+-- the state at the last of such groups
 abbrev pub atLast : State → ℕ → State
-atLast s bits = further s (s .todo .left * bits)
+atLast s bits = placed s (s .todo .left * bits) (s .todo .node) 0
 
 -- what is passed unread, up to bit n: nothing, a field, or all groups but the last; the state then, and how many fields they are
 pub data Passing (n : ℕ) (s : State) : State → ℕ → Type 0 where

@@ -2,7 +2,7 @@
 ghost use mathlib.Core.Path.{_≡_};
 ghost use mathlib.Core.Bool.{true};
 ghost use Prim.Native.Nat.{_*_, _≤_, _<_};
-ghost use Rattle.telegram.specs.Machine.{InTable, Directing, Idle, later, beyond, Free, further, Passing};
+ghost use Rattle.telegram.specs.Machine.{InTable, Directing, Idle, later, Free, placed, Passing};
 ghost use Rattle.telegram.specs.Seen.{Turning, Passed, Noticed};
 use crate::earlier::note;
 use crate::earlier::repeated;
@@ -100,28 +100,6 @@ pub(crate) fn later(rows: &[u32; 213], t: Todo) -> Todo
     }
 }
 
-// Where a telegram stands after such a field of w bits.
-fn beyond(rows: &[u32; 213], s: State, w: usize) -> State
-    requires { ⌜ InTable (now rows) (s .todo .node) × Idle (s .todo) × (s .at ≤ 65536) × (w ≤ 64) ⌝ }
-    ensures { λ r. ⌜ r ≡ beyond s w ⌝ }
-{
-    let t = s.todo;
-    let l = s.level;
-    let next = later(rows, t);
-    State {
-        at: s.at + w,
-        todo: next,
-        level: l,
-        start: s.start,
-        id: s.id,
-        dir: s.dir,
-        long: s.long,
-        userstart: s.userstart,
-        userlong: s.userlong,
-        pig: s.pig,
-    }
-}
-
 // What was passed unread: the state then, and how many fields it was.
 pub struct Passage {
     pub state: State,
@@ -134,7 +112,8 @@ pub struct Extent {
     pub fields: usize,
 }
 
-// Passes what no rule reads, up to bit n: all groups of a list but the last, or a field, or nothing.
+// Passes what no rule reads, up to bit n: all groups of a list but the last, or a field, or nothing. What follows a field is told apart
+// here, and not by `later`, so that the compiler can guess it.
 pub(crate) fn pass(rows: &[u32; 213], s: State, n: usize) -> Passage
     requires { ⌜ InTable (now rows) (s .todo .node) × (s .at ≤ n) × (n ≤ 830) ⌝ }
     ensures { λ r. ⌜ Passing n s (r .state) (r .fields) ⌝ }
@@ -142,19 +121,27 @@ pub(crate) fn pass(rows: &[u32; 213], s: State, n: usize) -> Passage
     let t = s.todo;
     let k = t.node;
     let room = n - s.at;
-    let g = span(k);
-    if covered(g, t.left, room) {
-        let left = t.left as usize;
-        return Passage {
-            state: at_last(s, left * g.bits),
-            fields: left * g.fields,
-        };
+    if t.left != 0 {
+        let g = span(k);
+        if covered(g, t.left, room) {
+            let left = t.left as usize;
+            return Passage {
+                state: placed(s, left * g.bits, k, 0),
+                fields: left * g.fields,
+            };
+        }
     }
     if idle(rows, t) {
         let w = width(rows, k);
         if w <= room {
+            if act(rows, k + 1) != END {
+                return Passage {
+                    state: placed(s, w, k + 1, t.left),
+                    fields: 1,
+                };
+            }
             return Passage {
-                state: beyond(rows, s, w),
+                state: placed(s, w, jump(rows, k + 1) + 1, t.left - 1),
                 fields: 1,
             };
         }
@@ -183,14 +170,11 @@ fn span(k: usize) -> Extent
     }
 }
 
-// Whether there are groups left, and bits enough for all of them.
+// Whether there are bits enough for all groups that are left.
 fn covered(g: Extent, left: u64, room: usize) -> bool
-    ensures { λ r. ⌜ (r ≡ true → (0 < g .bits) × (0 < left) × (left * g .bits ≤ room)) ⌝ }
+    ensures { λ r. ⌜ (r ≡ true → (0 < g .bits) × (left * g .bits ≤ room)) ⌝ }
 {
     if g.bits == 0 {
-        return false;
-    }
-    if left == 0 {
         return false;
     }
     if room / g.bits < left as usize {
@@ -199,21 +183,21 @@ fn covered(g: Extent, left: u64, room: usize) -> bool
     true
 }
 
-// Where a telegram stands at the last group, so many bits further.
-fn at_last(s: State, bits: usize) -> State
+// Where a telegram stands so many bits further, in row k with so many groups left.
+fn placed(s: State, bits: usize, k: usize, left: u64) -> State
     requires { ⌜ (s .at ≤ 830) × (bits ≤ 830) ⌝ }
-    ensures { λ r. ⌜ r ≡ further s bits ⌝ }
+    ensures { λ r. ⌜ r ≡ placed s bits k left ⌝ }
 {
     let t = s.todo;
     let l = s.level;
-    let last = Todo {
-        node: t.node,
-        left: 0,
+    let todo = Todo {
+        node: k,
+        left,
         outer: t.outer,
     };
     State {
         at: s.at + bits,
-        todo: last,
+        todo,
         level: l,
         start: s.start,
         id: s.id,

@@ -10,21 +10,17 @@ use Rattle.telegram.proofs.driver.covered.Tie as tie
 returns : tie.Need-returns
 returns c = λ e. absurd-flag _ e refl
 
+div-if2 : tie.Need-div-if2
+div-if2 c = search needs
+
 returns-2 : tie.Need-returns-2
 returns-2 c = λ e. absurd-flag _ e refl
 
-div-if3 : tie.Need-div-if3
-div-if3 c = search needs
-
 returns-3 : tie.Need-returns-3
-returns-3 c = λ e. absurd-flag _ e refl
-
-returns-4 : tie.Need-returns-4
-returns-4 c =
+returns-3 c =
     λ e.
-    let b = c .before .before .before .if1 .left in
-    let l = c .before .before .if2 .left in
-    (omega arith, omega arith, le-div-iff-mul-le {k = c .before .before .before .before .before .args .g .bits} {x = c .before .before .before .before .before .args .left} {y = c .before .before .before .before .before .args .room} (omega arith) .0 (c .if3 .left))
+    let b = c .before .before .if1 .left in
+    (omega arith, le-div-iff-mul-le {k = c .before .before .before .before .args .g .bits} {x = c .before .before .before .before .args .left} {y = c .before .before .before .before .args .room} (omega arith) .0 (c .if2 .left))
 
 pub covered-spec : {M : Type 1} → statement M
-covered-spec = tie.close (tie.spec returns returns-2 div-if3 returns-3 returns-4)
+covered-spec = tie.close (tie.spec returns div-if2 returns-2 returns-3)
