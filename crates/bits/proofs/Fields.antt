@@ -1,7 +1,7 @@
 -- The laws of taking and putting a field, for whoever goes by these definitions. Assumes nothing.
 use mathlib.Core.Path.{_≡_, refl, sym, ap, _∙_, subst}
 use mathlib.Core.List.{List, _++_}
-use mathlib.Core.Bool.{Bool, true, false, _&&_}
+use mathlib.Core.Bool.{Bool, true, false, cond, _&&_}
 use Prim.Native.Nat.{ℕ, _+_, _-_, _*_, _^_, _≤_, _<_}
 use native.Mathlib.Nat.{lt-of-not-le}
 use native.Mathlib.Decide.{decLe}
@@ -11,10 +11,12 @@ use lib.Dec.{leb, ltb}
 use lib.ListN.{length, take, drop, length-append, length-drop}
 use lib.Seq.{take-at, drop-at, length-take-le}
 use Rattle.bits.specs.Bits.{digits, valueOf, bitsOf, bytesFor, bytesOf, Below}
-use Rattle.bits.specs.Take.{inside, fieldBits, takenIf, takeAt}
+use Rattle.bits.specs.Take.{inside, fieldBits, takenIf, takeAt, skipAt}
 use Rattle.bits.specs.Put.{over, putAt, Put}
 use Rattle.bits.specs.declared.Cursor.{Cursor}
 use Rattle.bits.specs.declared.Taken.the-variants.{Field, Short}
+use Rattle.bits.specs.declared.Skipped.{Skipped}
+use Rattle.bits.specs.declared.Skipped.the-variants.{To, Lacking}
 use Rattle.bits.proofs.Digits.{length-digits, below-digits, valueOf-lt, valueOf-digits}
 use Rattle.bits.proofs.Bytes.{below-append, below-take, below-drop, below-bitsOf, length-bitsOf, bytesOf-bitsOf, bitsOf-bytesOf-whole}
 
@@ -103,6 +105,32 @@ module _ (s : List ℕ) (n width at : ℕ) where
   pub take-roomless : width ≤ 64 → at + width ≤ n → 8 * length s < n → takeAt s n width at ≡ Short
   unfolding takeAt
   take-roomless w h l = simp (le-leb width 64 w, le-leb (at + width) n h, lt-leb n (8 * length s) l)
+
+-- ---- going past bits
+
+-- where a cursor behind them is
+pub record IsPast (n bits at next : ℕ) : Type 0 where
+  pub within : at + bits ≤ n
+  pub past : next ≡ at + bits
+
+module _ (n bits at : ℕ) where
+  pub skip-whole : at + bits ≤ n → skipAt n bits at ≡ To (record { at = at + bits })
+  unfolding skipAt
+  skip-whole h = rw (le-leb (at + bits) n h)
+
+  pub skip-past : n < at + bits → skipAt n bits at ≡ Lacking
+  unfolding skipAt
+  skip-past h = rw (lt-leb (at + bits) n h)
+
+  by-test : (c : Cursor) (b : Bool) → leb (at + bits) n ≡ b → cond b (To (record { at = at + bits })) Lacking ≡ To c → IsPast n bits at (c .at)
+  by-test c true h e =
+      let ec : _≡_ {A = Cursor} (record { at = at + bits }) c = cc in
+      record { within = leb-true (at + bits) n h; past = sym (ap (λ (x : Cursor). x .at) ec) }
+  by-test c false h e = let z : _≡_ {A = ℕ} 0 1 = cc in absurd (omega arith)
+
+  pub skipped : (c : Cursor) → skipAt n bits at ≡ To c → IsPast n bits at (c .at)
+  unfolding skipAt
+  skipped c e = by-test c (leb (at + bits) n) refl e
 
 -- ---- putting
 

@@ -5,7 +5,7 @@ use mathlib.Core.Bool.{Bool}
 use Prim.Native.Nat.{ℕ, _^_}
 use lib.Dec.{ltb}
 use Rattle.bits.specs.Bits.{bytesFor}
-use Rattle.bits.specs.Take.{takeAt}
+use Rattle.bits.specs.Take.{takeAt, skipAt}
 use Rattle.bits.specs.Put.{Put}
 
 -- no two different things meet P
@@ -18,6 +18,9 @@ equation-once x a b p q = p ∙ sym q
 
 pub take-once : (s : List ℕ) (n width at : ℕ) → Once (λ r. r ≡ takeAt s n width at)
 take-once s n width at = equation-once (takeAt s n width at)
+
+pub skip-once : (n bits at : ℕ) → Once (λ r. r ≡ skipAt n bits at)
+skip-once n bits at = equation-once (skipAt n bits at)
 
 -- the answer and the final contents together
 pub put-once : (s : List ℕ) (at width value : ℕ) → Once (λ (r : Bool × List ℕ). Put s at width value (r .0) (r .1))

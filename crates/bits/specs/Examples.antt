@@ -3,9 +3,10 @@ use mathlib.Core.Path.{_≡_, refl}
 use mathlib.Core.List.{[], _∷_}
 use Prim.Native.Nat.{_-_}
 use Rattle.bits.specs.Bits.{digits, valueOf, bitsOf, bytesFor, filled, packed, bytesOf}
-use Rattle.bits.specs.Take.{takeAt}
+use Rattle.bits.specs.Take.{takeAt, skipAt}
 use Rattle.bits.specs.Put.{over, putAt}
 use Rattle.bits.specs.declared.Taken.the-variants.{Field, Short}
+use Rattle.bits.specs.declared.Skipped.the-variants.{To, Lacking}
 
 values : valueOf [] ∷ valueOf (1 ∷ 1 ∷ 0 ∷ []) ∷ valueOf (0 ∷ 0 ∷ 1 ∷ []) ∷ [] ≡ 0 ∷ 6 ∷ 1 ∷ []
 unfolding valueOf
@@ -38,6 +39,12 @@ fields : takeAt (0xab ∷ 0xcd ∷ []) 16 3 1 ∷ takeAt (0xab ∷ 0xcd ∷ []) 
     ∷ Short ∷ Short ∷ Short ∷ []
 unfolding digits valueOf bitsOf takeAt
 fields = refl
+
+-- up to bit n, past more bits than a number has, of no bits, and one bit past n
+skips : skipAt 16 12 4 ∷ skipAt 830 100 58 ∷ skipAt 8 0 8 ∷ skipAt 16 13 4 ∷ []
+    ≡ To (record { at = 16 }) ∷ To (record { at = 158 }) ∷ To (record { at = 8 }) ∷ Lacking ∷ []
+unfolding skipAt
+skips = refl
 
 -- over a byte's edge; then a value that does not fit, a field past the end and one that is too wide, which change nothing
 written : putAt (0xff ∷ 0xff ∷ []) 4 8 0x12 ∷ putAt (0xff ∷ 0xff ∷ []) 4 8 256 ∷ putAt (0xff ∷ 0xff ∷ []) 9 8 0

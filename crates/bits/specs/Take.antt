@@ -1,12 +1,14 @@
--- What taking a field at a position finds. Definitions alone.
+-- What taking a field at a position finds, and what going past bits does. Definitions alone.
 use mathlib.Core.List.{List}
-use mathlib.Core.Bool.{Bool, true, false, _&&_}
+use mathlib.Core.Bool.{Bool, true, false, cond, _&&_}
 use Prim.Native.Nat.{ℕ, _+_, _*_}
 use lib.ListN.{length, take, drop}
 use lib.Dec.{leb}
 use Rattle.bits.specs.Bits.{valueOf, bitsOf}
 use Rattle.bits.specs.declared.Taken.{Taken}
 use Rattle.bits.specs.declared.Taken.the-variants.{Field, Short}
+use Rattle.bits.specs.declared.Skipped.{Skipped}
+use Rattle.bits.specs.declared.Skipped.the-variants.{To, Lacking}
 
 -- a whole field lies there: it is no wider than a number of the code, ends by bit n, and the bytes hold n bits
 abbrev pub inside : List ℕ → ℕ → ℕ → ℕ → Bool
@@ -24,3 +26,7 @@ takenIf false t = Short
 unfoldable pub takeAt : List ℕ → ℕ → ℕ → ℕ → Taken
 takeAt s n width at =
     takenIf (inside s n width at) (Field (valueOf (fieldBits s width at)) (record { at = at + width }))
+
+-- the position past so many bits, where they end by bit n; else Lacking
+unfoldable pub skipAt : ℕ → ℕ → ℕ → Skipped
+skipAt n bits at = cond (leb (at + bits) n) (To (record { at = at + bits })) Lacking

@@ -1,7 +1,7 @@
 // Fields of bits inside bytes, the highest bit of byte 0 first.
 //
 // `Cursor::take` reads a field and `put` writes one, by way of a window of four bytes where one holds the field, and else a byte
-// at a time. No public function asks anything of its caller: every position, width, count and slice length has its answer, and
+// at a time; `Cursor::skip` goes past bits unread. No public function asks anything of its caller: every position, width, count and slice length has its answer, and
 // the definitions in specs/ say which.
 ghost use mathlib.Core.Path.{_≡_};
 ghost use Prim.Native.Nat.{_/_, _%_, _^_, _+_, _*_, _≤_, _<_, min};
@@ -9,7 +9,7 @@ ghost use mathlib.Core.Bool.{false};
 ghost use lib.Dec.{ltb};
 ghost use lib.ListN.{length};
 ghost use Rattle.bits.specs.Bits.{valueOf, bitsOf, bytesFor};
-ghost use Rattle.bits.specs.Take.{inside, fieldBits, takeAt};
+ghost use Rattle.bits.specs.Take.{inside, fieldBits, takeAt, skipAt};
 ghost use Rattle.bits.specs.Put.{over, Put};
 
 // A position in a bit string: how many bits lie before it.
@@ -21,6 +21,12 @@ pub struct Cursor {
 pub enum Taken {
     Field(u64, Cursor),
     Short,
+}
+
+// What going past bits finds: the cursor behind them, or that there are not so many.
+pub enum Skipped {
+    To(Cursor),
+    Lacking,
 }
 
 impl Cursor {
@@ -41,6 +47,20 @@ impl Cursor {
             windowed(s, at, width)
         };
         Taken::Field(v, Cursor { at: at + width })
+    }
+
+    // The cursor moved on past so many of the first n bits, whatever they hold. Lacking where that would be past bit n.
+    pub fn skip(self, n: usize, bits: usize) -> Skipped
+        ensures { λ r. ⌜ r ≡ skipAt n bits (self .at) ⌝ }
+    {
+        let at = self.at;
+        if n < at {
+            return Skipped::Lacking;
+        }
+        if n - at < bits {
+            return Skipped::Lacking;
+        }
+        Skipped::To(Cursor { at: at + bits })
     }
 }
 

@@ -94,6 +94,13 @@ module _ (t : Todo) (v : ℕ) (d : Tidy t) where
             todo-next (t .node) (t .left) (t .outer) a v ∙ ap some (sym (g .items ∙ f .items ∙ p .items));
       }
 
+  -- and at no end, that is all
+  pub advances-turned : (m r : Todo) → 1 < act (t .node) → Moved t v m → Turned m r → (act (r .node) ≡ 0 → ⊥) → Advanced t v (On r)
+  advances-turned m r a p f n = advances-on m r r a p f (stays r (f .inside) n)
+
+  advances-moved : (m : Todo) → 1 < act (t .node) → Moved t v m → (act (m .node) ≡ 0 → ⊥) → Advanced t v (On m)
+  advances-moved m a p n = advances-turned m m a p (stays m (p .inside) n) n
+
   -- at a field that steers nothing
   module _ (e : act (t .node) ≡ 2) where
     abbrev nextRow : Todo
@@ -106,9 +113,7 @@ module _ (t : Todo) (v : ℕ) (d : Tidy t) where
 
     -- before a row that is no end: that row
     pub advances-next : (act (t .node + 1) ≡ 0 → ⊥) → Advanced t v (On nextRow)
-    advances-next n =
-        let s = stays nextRow (passed .inside) n in
-        advances-on nextRow nextRow nextRow (omega arith) passed s s
+    advances-next n = advances-moved nextRow (omega arith) passed n
 
     -- before the end of a group that comes again: its first row, which is a field
     module _ (z : act (t .node + 1) ≡ 0) (p : 0 < jump (t .node + 1)) (l : 0 < t .left) where
@@ -123,4 +128,4 @@ module _ (t : Todo) (v : ℕ) (d : Tidy t) where
       advances-again =
           let g = turns-again nextRow (jump (t .node + 1)) (passed .inside) z refl (λ h. omega arith) (jump (t .node + 1) + 1) (λ h. omega arith) refl in
           let n = again-field in
-          advances-on nextRow _ _ (omega arith) passed g (stays _ (g .inside) (λ h. omega arith))
+          advances-turned nextRow _ (omega arith) passed g (λ h. omega arith)

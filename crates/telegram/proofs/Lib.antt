@@ -10,10 +10,9 @@ pub mod Seen
 pub mod Stepping
 pub mod Directions
 pub mod Idling
+pub mod Drifting
 pub mod Driving
 pub mod Scanning
-pub mod Grouping
-pub mod Spans
 pub mod Measuring
 pub mod Runs
 pub mod Taking

@@ -1,9 +1,10 @@
--- What the loop that checks a telegram goes by: the driver over bits, each taken through the cursor. Assumes nothing.
+-- What the loop that checks a telegram goes by: the driver over bits, through the cursor. Assumes nothing.
 use mathlib.Core.Path.{_≡_, refl, sym, ap, _∙_, subst}
+use mathlib.Core.Bool.{false}
 use mathlib.Core.List.{List, []}
 use Prim.Native.Nat.{ℕ, _+_, _*_, _-_, _^_, _≤_, _<_}
 use native.Mathlib.Omega.{arith}
-use native.Mathlib.Nat.{lt-of-not-le}
+use native.Mathlib.Nat.{lt-of-not-le, add-zero}
 use native.Mathlib.Decide.{decLe}
 use borrow.Author.Tests.{le-leb, lt-leb}
 use lib.ListN.{length, take, drop, length-drop, drop-of-length-le}
@@ -17,7 +18,7 @@ use Rattle.bits.proofs.Bytes.{length-bitsOf, below-bitsOf, below-take}
 use Rattle.bits.proofs.Fields.{IsField, taken, take-whole}
 use Rattle.format.specs.Rules.{Earlier, begun, due, past, paper, packetPlace}
 use Rattle.format.specs.Rules.Next.{over}
-use Rattle.format.specs.Table.{fieldAt, words}
+use Rattle.format.specs.Table.{act, fieldAt, words}
 use Rattle.format.specs.Telegrams.{all, bitsIn, fromBits, whole, read}
 use Rattle.format.specs.Telegrams.Taken.{got, lacks}
 use Rattle.format.specs.Telegrams.Result.{refused}
@@ -25,15 +26,18 @@ use Rattle.format.specs.declared.Kind.{Kind}
 use Rattle.format.specs.declared.Kind.the-variants.{Ended, Trailing}
 use Rattle.format.specs.declared.Answer.the-variants.{Accepted}
 use Rattle.laws.proofs.Sources.{Sent, from-bits, width-positive}
-use Rattle.telegram.specs.Machine.{view, Beginning, Idle, beyond}
+use Rattle.telegram.specs.Machine.{view, Beginning, Advanced, Drifted, Slight, reached}
+use Rattle.telegram.specs.Machine.Drifted.{nothing, field}
 use Rattle.telegram.specs.Reader.{answerOf}
 use Rattle.telegram.specs.declared.state.State.{State}
+use Rattle.telegram.specs.declared.todo.Todo.{Todo}
+use Rattle.telegram.specs.declared.todo.Ahead.the-variants.{On}
 use Rattle.telegram.specs.declared.machine.Outcome.{Outcome}
 use Rattle.telegram.specs.declared.machine.Outcome.the-variants.{Go, Over, Breaks}
 use Rattle.telegram.proofs.Stepping.{width-in}
 use Rattle.telegram.specs.Seen.{Passed, Noticed}
 use Rattle.telegram.proofs.Driving.{Drives, drives-first, due-is, here, refused-lacking, refused-broken, accepted-mark, refused-trailing, mark-counted, moves, drives-on}
-use Rattle.telegram.proofs.Idling.{idle-passed, idle-noticed}
+use Rattle.telegram.proofs.Idling.{idle-ahead, slight-free, slight-passed, slight-noticed}
 use Rattle.format.specs.Fields as fields
 use Rattle.format.specs.Rules as rules
 
@@ -196,25 +200,33 @@ pub scans-here : {s : List ℕ} {n : ℕ} {rows seen : List ℕ} {met : ℕ} {st
     → Scans s n rows seen met st (record { at = st .at }) count
 scans-here i = record { low = i .low; wide = i .wide; drives = i .drives; here = refl; within = i .within; few = i .few }
 
--- past a field that no rule reads, if there are bits enough
+-- past a value of which nothing is kept
 module _ {s : List ℕ} {n : ℕ} {rows seen : List ℕ} {met : ℕ} {st : State} {c : Cursor} {count : ℕ} (i : Scans s n rows seen met st c count)
-    (idle : Idle (st .todo)) {w : ℕ} (ew : w ≡ fieldAt (st .todo .node) .width) (l : w ≤ n - st .at) where
-  abbrev f : ℕ
-  f = fieldAt (st .todo .node) .width
+    {w : ℕ} (ew : w ≡ fieldAt (st .todo .node) .width) {t : Taken} (e : t ≡ takeAt s n w (c .at)) {v : ℕ} {next : Cursor} (h : t ≡ Field v next)
+    (q : Slight (st .todo .node) v) {u : Todo} (a : Advanced (st .todo) v (On u)) (f : act (u .node) ≡ 0 → ⊥) where
+  ends-at : next .at ≡ st .at + fieldAt (st .todo .node) .width
+  ends-at = let g = is-field i ew e h in omega (arith, g .past, i .here)
 
-  abbrev v : ℕ
-  v = valueOf (fieldBits s f (c .at))
+  passes-it : Passed seen met st v (Go (reached st (next .at) u))
+  passes-it = slight-passed st (i .drives .sound) v q a f ends-at seen met
 
-  whole-field : takeAt s n f (c .at) ≡ Field v (record { at = c .at + f })
-  whole-field = take-whole s n f (c .at) (width-in (fieldAt (st .todo .node))) (omega (arith, i .here, i .within)) (i .wide)
+  pub scans-slight : Scans s n rows seen met (reached st (next .at) u) next (count + 1)
+  scans-slight =
+      scans-on i ew e h passes-it refl
+      (slight-noticed st (i .drives .sound) v q a f ends-at seen met (omega (arith, i .drives .noted, i .drives .long, i .within, i .low)) (fits i ew e h))
 
-  past-it : Scans s n rows seen met (beyond st f) (record { at = c .at + f }) (count + 1)
-  past-it =
-      scans-on i refl refl whole-field (idle-passed st (i .drives .sound) idle v seen met) refl
-      (idle-noticed st (i .drives .sound) idle v seen met (omega (arith, i .drives .noted, i .drives .long, i .within, i .low)) (fits i refl refl whole-field))
+  pub less-slight : n - next .at < n - st .at
+  less-slight = less i ew e h passes-it refl
 
-  pub scans-past : {r : State} → r ≡ beyond st w → Scans s n rows seen met r (record { at = r .at }) (count + 1)
-  scans-past e = rw (e, ew) (scans-here past-it)
-
-  pub less-past : {r : State} → r ≡ beyond st w → n - r .at < n - st .at
-  less-past e = rw e (omega (arith, ew, i .within, width-positive (fieldAt (st .todo .node))))
+-- past fields that no rule reads
+module _ {s : List ℕ} {n : ℕ} {rows seen : List ℕ} {met : ℕ} {st : State} {c : Cursor} {count : ℕ} (i : Scans s n rows seen met st c count) where
+  pub scans-drifted : {u : Todo} {x m : ℕ} → Drifted n false (st .todo) (st .at) u x m
+      → Scans s n rows seen met (reached st x u) (record { at = x }) (count + m)
+  scans-drifted nothing = rw (add-zero count) (scans-here i)
+  scans-drifted (field {u} {x} {m} d idle free h) =
+      let j = scans-drifted d in
+      let w = fieldAt (u .node) .width in
+      let whole = take-whole s n w x (width-in (fieldAt (u .node))) h (i .wide) in
+      let g = idle-ahead u (j .drives .sound .tidy) idle (valueOf (fieldBits s w x)) in
+      let c : count + (m + 1) ≡ count + m + 1 = omega arith in
+      rw c (scans-slight j refl refl whole (slight-free free) (g .0) (g .1))

@@ -14,7 +14,7 @@ use Rattle.format.specs.Packets.Items.{end, nest, send, sendIf, sendEither, sen
 use Rattle.format.specs.Rules.{Earlier, Context, Terms, Next, context, next, ruleOf, broken, noted, settled, step, unless, begun}
 use Rattle.format.specs.Rules.Level.{inHeader, inPacket, inUser}
 use Rattle.format.specs.Rules.Next.{go, over, breaks}
-use Rattle.format.specs.Table.{node, act, jump, up, fieldAt, codeOf, words}
+use Rattle.format.specs.Table.{node, act, jump, up, fieldAt, codeOf, lowOf, highOf, words}
 use Rattle.format.specs.declared.Kind.{Kind}
 use Rattle.telegram.specs.declared.todo.Todo.{Todo}
 use Rattle.telegram.specs.declared.state.Level.{Level}
@@ -26,6 +26,8 @@ use Rattle.telegram.specs.declared.verdict.Verdict.{Verdict}
 use Rattle.telegram.specs.declared.verdict.Verdict.the-variants.{Fine, Broken}
 use Rattle.telegram.specs.declared.todo.Ahead.{Ahead}
 use Rattle.telegram.specs.declared.todo.Ahead.the-variants.{On, Mark}
+use Rattle.telegram.specs.declared.driver.Easy.{Easy}
+use Rattle.telegram.specs.declared.driver.Easy.the-variants.{To, Not}
 use Rattle.format.specs.Rules as rules
 
 -- the array is the table of rows, and k is one of them
@@ -87,12 +89,11 @@ pub record Advanced (t : Todo) (v : ℕ) (r : Ahead) : Type 0 where
   pub tidy : TidyOn r
   pub items : next (todoOf t) v ≡ itemsOf r
 
--- ---- a field that no rule reads
+-- ---- fields that are gone past
 
--- it may hold anything and nothing is kept of it, and after it another field is due: of the next row, or of the group again
+-- it steers nothing, and after it another field is due: of the next row, or of the group again
 pub record Idle (t : Todo) : Type 0 where
   pub plain : act (t .node) ≡ 2
-  pub free : codeOf (fieldAt (t .node) .sense) < 3
   pub again : act (t .node + 1) ≡ 0 → (0 < jump (t .node + 1)) × (0 < t .left)
 
 -- what is to be sent after such a field
@@ -101,12 +102,35 @@ later t =
     cond (eqb (act (t .node + 1)) 0) (record { node = jump (t .node + 1) + 1; left = t .left - 1; outer = t .outer })
     (record { node = t .node + 1; left = t .left; outer = t .outer })
 
--- the state so many bits further, in row k with so many groups left
-abbrev pub placed : State → ℕ → ℕ → ℕ → State
-placed s bits k left =
+-- it need not be read: where a telegram is told again, if it is no scale and no distance; else, if it may hold anything and nothing is
+-- kept of it
+abbrev pub Unread : Bool → ℕ → Type 0
+Unread true k =
+    (codeOf (fieldAt k .sense) ≡ 11 → ⊥) × (codeOf (fieldAt k .sense) ≡ 1 → ⊥) × (codeOf (fieldAt k .sense) ≡ 2 → ⊥)
+Unread false k = codeOf (fieldAt k .sense) < 3
+
+-- from t at a position, so many such fields up to bit n lead to a todo at another position
+pub data Drifted (n : ℕ) (told : Bool) (t : Todo) (at : ℕ) : Todo → ℕ → ℕ → Type 0 where
+  nothing : Drifted n told t at t at 0
+  field : {u : Todo} {x m : ℕ} → Drifted n told t at u x m → Idle u → Unread told (u .node) → x + fieldAt (u .node) .width ≤ n
+      → Drifted n told t at (later u) (x + fieldAt (u .node) .width) (m + 1)
+
+-- a value of which nothing is kept, and which keeps its rule: a range, or none
+pub record Slight (k v : ℕ) : Type 0 where
+  pub unkept : 2 < codeOf (fieldAt k .sense) → 9 < codeOf (fieldAt k .sense)
+  pub allowed : 9 < codeOf (fieldAt k .sense) → (lowOf (fieldAt k) ≤ v) × (v ≤ highOf (fieldAt k))
+
+-- where such a value leads, if to a field
+abbrev pub Eased : Todo → ℕ → Easy → Type 0
+Eased t v (To u) = Slight (t .node) v × Advanced t v (On u) × (act (u .node) ≡ 0 → ⊥)
+Eased t v Not = Unit
+
+-- the state at a position, with t to be sent
+abbrev pub reached : State → ℕ → Todo → State
+reached s at t =
     record {
-      at = s .at + bits;
-      todo = record { node = k; left = left; outer = s .todo .outer };
+      at = at;
+      todo = t;
       level = s .level;
       start = s .start;
       id = s .id;
@@ -116,49 +140,6 @@ placed s bits k left =
       userlong = s .userlong;
       pig = s .pig;
     }
-
--- the state after such a field of w bits
-abbrev pub beyond : State → ℕ → State
-beyond s w =
-    record {
-      at = s .at + w;
-      todo = later (s .todo);
-      level = s .level;
-      start = s .start;
-      id = s .id;
-      dir = s .dir;
-      long = s .long;
-      userstart = s .userstart;
-      userlong = s .userlong;
-      pig = s .pig;
-    }
-
--- ---- groups that no rule reads
-
--- the bits of m fields from row k on
-abbrev pub widthsFrom : ℕ → ℕ → ℕ
-widthsFrom k zero = 0
-widthsFrom k (suc m) = fieldAt k .width + widthsFrom (k + 1) m
-
--- the group that begins in row k is so many fields that may hold anything, of so many bits together
-pub record Free (k bits fields : ℕ) : Type 0 where
-  pub some : 0 < fields
-  pub plain : (j : ℕ) → j < fields → (act (k + j) ≡ 2) × (codeOf (fieldAt (k + j) .sense) < 3)
-  pub end : act (k + fields) ≡ 0
-  pub first : jump (k + fields) + 1 ≡ k
-  pub group : 0 < jump (k + fields)
-  pub wide : bits ≡ widthsFrom k fields
-
--- the state at the last of such groups
-abbrev pub atLast : State → ℕ → State
-atLast s bits = placed s (s .todo .left * bits) (s .todo .node) 0
-
--- what is passed unread, up to bit n: nothing, a field, or all groups but the last; the state then, and how many fields they are
-pub data Passing (n : ℕ) (s : State) : State → ℕ → Type 0 where
-  nothing : Passing n s s 0
-  field : Idle (s .todo) → fieldAt (s .todo .node) .width ≤ n - s .at → Passing n s (beyond s (fieldAt (s .todo .node) .width)) 1
-  groups : {bits fields : ℕ} → Free (s .todo .node) bits fields → 0 < s .todo .left → s .todo .left * bits ≤ n - s .at
-      → Passing n s (atLast s bits) (s .todo .left * fields)
 
 -- ---- the context
 

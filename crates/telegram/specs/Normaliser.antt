@@ -58,10 +58,6 @@ pub record Patching (s : List ℕ) (n : ℕ) (out : List ℕ) : Type 0 where
   pub rest : List ℕ
   pub front : out ≡ s ++ rest
 
--- a field that is sent as it is, whatever it holds
-abbrev pub Quiet : ℕ → Type 0
-Quiet k = codeOf (fieldAt k .sense) ≡ 0
-
 -- the bytes of that telegram's normal form stand in front, and behind them is what was there
 abbrev pub Normalised : List ℕ → ℕ → List ℕ → List ℕ → Type 0
 Normalised s n before after =

@@ -1,24 +1,32 @@
 // What every driver of the machine does with a value: one field further, with the packets that came before in an array.
 ghost use mathlib.Core.Path.{_≡_};
 ghost use mathlib.Core.Bool.{true};
-ghost use Prim.Native.Nat.{_*_, _≤_, _<_};
-ghost use Rattle.telegram.specs.Machine.{InTable, Directing, Idle, later, Free, placed, Passing};
+ghost use Rattle.format.specs.Table.{act, words};
+ghost use Rattle.telegram.specs.Machine.{InTable, Tidy, Directing, Unread, Drifted, Slight, Eased};
 ghost use Rattle.telegram.specs.Seen.{Turning, Passed, Noticed};
 use crate::earlier::note;
 use crate::earlier::repeated;
 use crate::machine::Outcome;
 use crate::machine::step;
+use crate::rows::ANY;
 use crate::rows::DIRECTION;
 use crate::rows::END;
+use crate::rows::SCALE;
 use crate::rows::SEND;
 use crate::rows::TEXT;
 use crate::rows::act;
 use crate::rows::code;
+use crate::rows::high;
 use crate::rows::jump;
+use crate::rows::low;
 use crate::rows::width;
 use crate::state::Level;
 use crate::state::State;
 use crate::todo::Todo;
+use crate::todo::moved;
+use crate::todo::turned;
+use bits::Cursor;
+use bits::Skipped;
 
 // The field that is due holds v, after the packets of the first n of seen.
 pub(crate) fn turn(rows: &[u32; 213], seen: &[u16], n: usize, s: State, v: u64) -> Outcome
@@ -55,156 +63,124 @@ fn directing(rows: &[u32; 213], s: State) -> bool
     }
 }
 
-// Whether the field that is due may hold anything, nothing is kept of it and another is due after it, of the next row or of the group
-// again: then no rule reads it.
-pub(crate) fn idle(rows: &[u32; 213], t: Todo) -> bool
-    requires { ⌜ InTable (now rows) (t .node) ⌝ }
-    ensures { λ r. ⌜ (r ≡ true → Idle t) ⌝ }
+// Where a telegram stands behind fields that were gone past: what is to be sent there, the cursor, and how many fields they were.
+pub struct Reach {
+    pub todo: Todo,
+    pub cursor: Cursor,
+    pub fields: usize,
+}
+
+// Goes past fields unread, through the cursor, up to one that has to be read, that is the last of its packet or of its list, or that would end
+// past bit n. What follows a field is told apart here in place, so that the compiler can guess it.
+pub(crate) fn drift(rows: &[u32; 213], n: usize, told: bool, from: Todo, start: Cursor) -> Reach
+    requires { ⌜ (now rows ≡ words) × Tidy from ⌝ }
+    ensures { λ r. ⌜ Drifted n told from (start .at) (r .todo) (r .cursor .at) (r .fields) ⌝ }
 {
-    let k = t.node;
+    let mut t = from;
+    let mut c = start;
+    let mut fields: usize = 0;
+    loop {
+        let k = t.node;
+        if !unread(rows, k, told) {
+            break;
+        }
+        let Skipped::To(next) = c.skip(n, width(rows, k)) else {
+            break;
+        };
+        if act(rows, k + 1) != END {
+            t.node = k + 1;
+            c = next;
+            fields += 1;
+            continue;
+        }
+        if jump(rows, k + 1) == 0 {
+            break;
+        }
+        if t.left == 0 {
+            break;
+        }
+        t.node = jump(rows, k + 1) + 1;
+        t.left -= 1;
+        c = next;
+        fields += 1;
+    }
+    Reach {
+        todo: t,
+        cursor: c,
+        fields,
+    }
+}
+
+// Whether a field steers nothing and may be gone past: in a telegram that is told again, where it is no scale and no distance; and else,
+// where it may hold anything and nothing is kept of it.
+fn unread(rows: &[u32; 213], k: usize, told: bool) -> bool
+    requires { ⌜ InTable (now rows) k ⌝ }
+    ensures { λ r. ⌜ (r ≡ true → (act k ≡ 2) × Unread told k) ⌝ }
+{
     if act(rows, k) != SEND {
         return false;
     }
-    if TEXT < code(rows, k) {
-        return false;
-    }
-    if act(rows, k + 1) != END {
+    let c = code(rows, k);
+    if told {
+        if c == ANY {
+            return true;
+        }
+        if c <= TEXT {
+            return false;
+        }
+        if c == SCALE {
+            return false;
+        }
         return true;
     }
-    if jump(rows, k + 1) == 0 {
-        return false;
-    }
-    if t.left == 0 {
+    if TEXT < c {
         return false;
     }
     true
 }
 
-// What is to be sent after such a field.
-pub(crate) fn later(rows: &[u32; 213], t: Todo) -> Todo
-    requires { ⌜ InTable (now rows) (t .node) × Idle t ⌝ }
-    ensures { λ r. ⌜ r ≡ later t ⌝ }
+// Where a value leads that needs nothing of the telegram's state, or that it needs more.
+pub enum Easy {
+    To(Todo),
+    Not,
+}
+
+// What is to be sent after a value that keeps its rule and of which nothing is kept, if that is a field.
+pub(crate) fn ease(rows: &[u32; 213], t: Todo, v: u64) -> Easy
+    requires { ⌜ (now rows ≡ words) × Tidy t ⌝ }
+    ensures { λ r. ⌜ Eased t v r ⌝ }
 {
-    let k = t.node + 1;
-    if act(rows, k) == END {
-        return Todo {
-            node: jump(rows, k) + 1,
-            left: t.left - 1,
-            outer: t.outer,
-        };
-    }
-    Todo {
-        node: k,
-        left: t.left,
-        outer: t.outer,
-    }
-}
-
-// What was passed unread: the state then, and how many fields it was.
-pub struct Passage {
-    pub state: State,
-    pub fields: usize,
-}
-
-// A group that no rule reads: its bits and its fields; no bits where a rule reads one of them.
-pub struct Extent {
-    pub bits: usize,
-    pub fields: usize,
-}
-
-// Passes what no rule reads, up to bit n: all groups of a list but the last, or a field, or nothing. What follows a field is told apart
-// here, and not by `later`, so that the compiler can guess it.
-pub(crate) fn pass(rows: &[u32; 213], s: State, n: usize) -> Passage
-    requires { ⌜ InTable (now rows) (s .todo .node) × (s .at ≤ n) × (n ≤ 830) ⌝ }
-    ensures { λ r. ⌜ Passing n s (r .state) (r .fields) ⌝ }
-{
-    let t = s.todo;
     let k = t.node;
-    let room = n - s.at;
-    if t.left != 0 {
-        let g = span(k);
-        if covered(g, t.left, room) {
-            let left = t.left as usize;
-            return Passage {
-                state: placed(s, left * g.bits, k, 0),
-                fields: left * g.fields,
-            };
-        }
+    if !slight(rows, k, v) {
+        return Easy::Not;
     }
-    if idle(rows, t) {
-        let w = width(rows, k);
-        if w <= room {
-            if act(rows, k + 1) != END {
-                return Passage {
-                    state: placed(s, w, k + 1, t.left),
-                    fields: 1,
-                };
-            }
-            return Passage {
-                state: placed(s, w, jump(rows, k + 1) + 1, t.left - 1),
-                fields: 1,
-            };
-        }
+    if act(rows, k) < SEND {
+        return Easy::Not;
     }
-    Passage {
-        state: s,
-        fields: 0,
+    let u = turned(rows, moved(rows, t, v));
+    if act(rows, u.node) == END {
+        return Easy::Not;
     }
+    Easy::To(u)
 }
 
-// The group that begins in row k, if no rule reads it: a gradient, a character of a text, a speed restriction.
-fn span(k: usize) -> Extent
-    ensures { λ r. ⌜ (r .bits ≤ 38) × (r .fields ≤ 4) × (0 < r .bits → Free k (r .bits) (r .fields)) ⌝ }
+// Whether nothing is kept of a value and it keeps its rule, which is a range or none.
+fn slight(rows: &[u32; 213], k: usize, v: u64) -> bool
+    requires { ⌜ InTable (now rows) k ⌝ }
+    ensures { λ r. ⌜ (r ≡ true → Slight k v) ⌝ }
 {
-    match k {
-        39 => Extent {
-            bits: 24,
-            fields: 3,
-        },
-        128 => Extent { bits: 8, fields: 1 },
-        191 => Extent {
-            bits: 38,
-            fields: 4,
-        },
-        _ => Extent { bits: 0, fields: 0 },
+    let c = code(rows, k);
+    if c <= TEXT {
+        return true;
     }
-}
-
-// Whether there are bits enough for all groups that are left.
-fn covered(g: Extent, left: u64, room: usize) -> bool
-    ensures { λ r. ⌜ (r ≡ true → (0 < g .bits) × (left * g .bits ≤ room)) ⌝ }
-{
-    if g.bits == 0 {
+    if c <= DIRECTION {
         return false;
     }
-    if room / g.bits < left as usize {
+    if v < low(rows, k) {
+        return false;
+    }
+    if high(rows, k) < v {
         return false;
     }
     true
-}
-
-// Where a telegram stands so many bits further, in row k with so many groups left.
-fn placed(s: State, bits: usize, k: usize, left: u64) -> State
-    requires { ⌜ (s .at ≤ 830) × (bits ≤ 830) ⌝ }
-    ensures { λ r. ⌜ r ≡ placed s bits k left ⌝ }
-{
-    let t = s.todo;
-    let l = s.level;
-    let todo = Todo {
-        node: k,
-        left,
-        outer: t.outer,
-    };
-    State {
-        at: s.at + bits,
-        todo,
-        level: l,
-        start: s.start,
-        id: s.id,
-        dir: s.dir,
-        long: s.long,
-        userstart: s.userstart,
-        userlong: s.userlong,
-        pig: s.pig,
-    }
 }

@@ -3,7 +3,6 @@
 // A refusal changes no output, so normalising checks first, and tells in a second run, which follows the rows alone. At a scale the run
 // looks ahead, up to the next one, whether every distance is a whole number of metres that fits its field.
 ghost use mathlib.Core.Path.{_≡_};
-ghost use mathlib.Core.Bool.{true};
 ghost use mathlib.Core.List.{_++_};
 ghost use Prim.Native.Nat.{_^_, _<_, _≤_};
 ghost use lib.ListN.{length, drop};
@@ -12,14 +11,11 @@ ghost use Rattle.format.specs.Normal.{metric};
 ghost use Rattle.format.specs.Rules.{paper};
 ghost use Rattle.format.specs.Table.{words, fieldAt};
 ghost use Rattle.telegram.specs.Along.{Some, Whichever};
-ghost use Rattle.telegram.specs.Machine.{InTable, Idle};
-ghost use Rattle.telegram.specs.Normaliser.{Normalise, Telling, Patching, Quiet, Normalised, converted, inMetres, Rescaled, Tells, Sendable, Looked};
+ghost use Rattle.telegram.specs.Machine.{InTable};
+ghost use Rattle.telegram.specs.Normaliser.{Normalise, Telling, Patching, Normalised, converted, inMetres, Rescaled, Tells, Sendable, Looked};
 use crate::answer::refuse;
-use crate::driver::idle;
-use crate::driver::later;
+use crate::driver::drift;
 use crate::reader::check;
-use crate::rows::ANY;
-use crate::rows::code;
 use crate::rows::width;
 use crate::todo::Ahead;
 use crate::todo::Todo;
@@ -87,8 +83,8 @@ fn copy(s: &[u8], out: &mut [u8])
     }
 }
 
-// Puts over a telegram that stands in front of out what its normal form has otherwise. A field that is no scale and no distance, and
-// decides nothing of what follows, is passed.
+// Puts over a telegram that stands in front of out what its normal form has otherwise. Fields that are no scale and no distance, and
+// decide nothing of what follows, are gone past.
 fn patch(s: &[u8], n: usize, out: &mut [u8])
     requires { ⌜ Patching (now s) n (now out) ⌝ }
     ensures { λ r. ⌜ Normalised (now (s .entry)) n (now (out .entry)) (now (out .exit)) ⌝ }
@@ -103,18 +99,16 @@ fn patch(s: &[u8], n: usize, out: &mut [u8])
     let mut from = Scale::Tenths;
     let mut to = Scale::Tenths;
     loop {
-        let k = t.node;
+        let g = drift(&rows, n, true, t, c);
+        let here = g.todo;
+        let k = here.node;
         let w = width(&rows, k);
-        let at = c.at;
-        if quiet(&rows, t) {
-            t = later(&rows, t);
-            c = Cursor { at: at + w };
-            continue;
-        }
-        let Taken::Field(v, next) = c.take(s, n, w) else {
+        let due = g.cursor;
+        let at = due.at;
+        let Taken::Field(v, next) = due.take(s, n, w) else {
             return;
         };
-        let Ahead::On(u) = advance(&rows, t, v) else {
+        let Ahead::On(u) = advance(&rows, here, v) else {
             return;
         };
         let x = retell(&rows, s, n, k, v, u, next, from, to);
@@ -126,17 +120,6 @@ fn patch(s: &[u8], n: usize, out: &mut [u8])
         from = x.from;
         to = x.to;
     }
-}
-
-// Whether the field that is due may hold anything, is no distance, and another is due after it.
-fn quiet(rows: &[u32; 213], t: Todo) -> bool
-    requires { ⌜ InTable (now rows) (t .node) ⌝ }
-    ensures { λ r. ⌜ (r ≡ true → Idle t × Quiet (t .node)) ⌝ }
-{
-    if code(rows, t.node) != ANY {
-        return false;
-    }
-    idle(rows, t)
 }
 
 // What is sent for the value v of row k, before what u says is to be sent from the cursor on.
@@ -211,14 +194,12 @@ fn metric(rows: &[u32; 213], s: &[u8], n: usize, q: Scale, first: Todo, start: C
     let mut t = first;
     let mut c = start;
     loop {
-        let k = t.node;
+        let g = drift(rows, n, true, t, c);
+        let here = g.todo;
+        let k = here.node;
         let w = width(rows, k);
-        if quiet(rows, t) {
-            t = later(rows, t);
-            c = Cursor { at: c.at + w };
-            continue;
-        }
-        let Taken::Field(v, next) = c.take(s, n, w) else {
+        let due = g.cursor;
+        let Taken::Field(v, next) = due.take(s, n, w) else {
             return true;
         };
         match looked(rows, q, k, v, w) {
@@ -230,7 +211,7 @@ fn metric(rows: &[u32; 213], s: &[u8], n: usize, q: Scale, first: Todo, start: C
                 return true;
             }
         }
-        let Ahead::On(u) = advance(rows, t, v) else {
+        let Ahead::On(u) = advance(rows, here, v) else {
             return true;
         };
         t = u;

@@ -10,8 +10,10 @@ ghost use Rattle.format.specs.Telegrams as telegrams;
 ghost use Rattle.telegram.specs.Reader.{sized, clear, checked, answerOf, Read};
 ghost use Rattle.telegram.specs.Filling.{Filling, Filled};
 use crate::answer::refuse;
+use crate::driver::Easy;
+use crate::driver::drift;
+use crate::driver::ease;
 use crate::driver::keep;
-use crate::driver::pass;
 use crate::driver::turn;
 use crate::machine::Outcome;
 use crate::rows::width;
@@ -80,8 +82,8 @@ fn clear(s: &[u8], n: usize) -> bool
     }
 }
 
-// Goes over the fields of the first n bits of s up to the first broken rule or the end mark. A field that a rule reads is taken through
-// the cursor; any other is passed, if there are bits enough for it. Every packet whose Q_DIR was taken is in seen: its Q_DIR has two
+// Goes over the fields of the first n bits of s up to the first broken rule or the end mark, each through the cursor: those that no rule reads
+// are gone past, and every other is taken. Every packet whose Q_DIR was taken is in seen: its Q_DIR has two
 // bits of the 830, so that there are not more than 415.
 fn scan(s: &[u8], n: usize) -> Answer
     requires { ⌜ (n ≤ 830) × (n ≤ 8 * length (now s)) ⌝ }
@@ -93,17 +95,24 @@ fn scan(s: &[u8], n: usize) -> Answer
     let mut st = begin();
     let mut count: usize = 0;
     loop {
-        let p = pass(&rows, st, n);
-        if 0 < p.fields {
-            st = p.state;
-            count += p.fields;
-            continue;
-        }
-        let t = st.todo;
-        let c = Cursor { at: st.at };
+        let g = drift(&rows, n, false, st.todo, Cursor { at: st.at });
+        let t = g.todo;
+        let c = g.cursor;
+        st.at = c.at;
+        st.todo = t;
+        count += g.fields;
         let Taken::Field(v, next) = c.take(s, n, width(&rows, t.node)) else {
             return refuse(Kind::Ended, place(Kind::Ended, st, 0));
         };
+        match ease(&rows, t, v) {
+            Easy::To(u) => {
+                st.at = next.at;
+                st.todo = u;
+                count += 1;
+                continue;
+            }
+            Easy::Not => {}
+        }
         match turn(&rows, &seen, met, st, v) {
             Outcome::Breaks(kind) => {
                 return refuse(kind, place(kind, st, v));

@@ -39,7 +39,7 @@ fn follow(rows: &[u32; 213], k: usize, v: u64) -> usize
 }
 
 // The field is passed: the next row, or the first row of the group that it repeats.
-fn moved(rows: &[u32; 213], t: Todo, v: u64) -> Todo
+pub(crate) fn moved(rows: &[u32; 213], t: Todo, v: u64) -> Todo
     requires { ⌜ InTable (now rows) (t .node) × (1 < act (t .node)) ⌝ }
     ensures { λ r. ⌜ Moved t v r ⌝ }
 {
@@ -66,7 +66,7 @@ fn moved(rows: &[u32; 213], t: Todo, v: u64) -> Todo
 }
 
 // At a group's end: the group again, or what follows its last.
-fn turned(rows: &[u32; 213], t: Todo) -> Todo
+pub(crate) fn turned(rows: &[u32; 213], t: Todo) -> Todo
     requires { ⌜ InTable (now rows) (t .node) ⌝ }
     ensures { λ r. ⌜ Turned t r ⌝ }
 {

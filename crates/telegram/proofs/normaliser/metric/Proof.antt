@@ -7,8 +7,8 @@ use borrow.Author.Needs.{needs}
 use Rattle.format.specs.Telegrams.{Entry}
 use Rattle.telegram.specs.Along.{Along}
 use Rattle.telegram.proofs.Deciding.{Deciding, deciding-first, value-fits, fails, ends, marks, deciding-on}
-use Rattle.telegram.proofs.Quieting.{less-past, deciding-past}
-use Rattle.telegram.proofs.Runs.{low}
+use Rattle.telegram.proofs.Drifting.{further}
+use Rattle.telegram.proofs.Quieting.{deciding-drifted}
 use Rattle.telegram.proofs.Taking.{never-short, less}
 use Rattle.telegram.proofs.normaliser.metric.Statement.{statement}
 use Rattle.telegram.proofs.normaliser.metric.Tie as tie
@@ -22,35 +22,15 @@ abbrev μ-loop : tie.MeasureT-loop
 loop-holds : tie.Need-loop-holds Inv-loop μ-loop
 loop-holds c = λ es a. deciding-first _ _ _ _ _ es a
 
+drift-requires : tie.Need-drift-requires Inv-loop μ-loop
+drift-requires c κs =
+    let a = c .before .before .pre .1 in
+    (c .before .before .pre .0, c .loop .inv (a .left) (a .along) .along .onward .tidy)
+
 width-requires : tie.Need-width-requires Inv-loop μ-loop
 width-requires c κs =
-    let a = c .before .before .pre .1 in
-    record { table = c .before .before .pre .0; inside = c .loop .inv (a .left) (a .along) .along .onward .tidy .inside }
-
-quiet-requires : tie.Need-quiet-requires Inv-loop μ-loop
-quiet-requires c κs =
-    let a = c .before .before .before .pre .1 in
-    record { table = c .before .before .before .pre .0; inside = c .before .loop .inv (a .left) (a .along) .along .onward .tidy .inside }
-
--- a field that is sent as it is
-
-later-requires : tie.Need-later-requires Inv-loop μ-loop
-later-requires c κs =
-    let a = c .before .before .before .before .before .pre .1 in
-    (record { table = c .before .before .before .before .before .pre .0; inside = c .before .before .before .loop .inv (a .left) (a .along) .along .onward .tidy .inside }, c .before .quiet .ensures (c .if1 .taken) .0)
-
-add-t15 : tie.Need-add-t15 Inv-loop μ-loop
-add-t15 c =
-    let a = c .before .before .before .before .before .before .before .pre .1 in
-    omega (arith, low (c .before .before .before .before .before .loop .inv (a .left) (a .along) .along .onward) (c .before .before .before .before .width .ensures))
-
-loop-less : tie.Need-loop-less Inv-loop μ-loop
-loop-less c = let a = c .before .before .before .before .before .before .before .pre .1 in less-past (c .before .before .before .before .before .loop .inv (a .left) (a .along) .along) (c .before .before .before .before .width .ensures)
-
-loop-again : tie.Need-loop-again Inv-loop μ-loop
-loop-again c = λ es a. let q = c .before .before .before .quiet .ensures (c .before .before .if1 .taken) in deciding-past (c .before .before .before .before .before .loop .inv es a) (q .0) (q .1) (c .before .before .before .before .width .ensures) (c .before .later .ensures)
-
--- any other
+    let a = c .before .before .before .before .pre .1 in
+    record { table = c .before .before .before .before .pre .0; inside = deciding-drifted (c .before .drift .ensures) (c .before .before .loop .inv (a .left) (a .along)) .along .onward .tidy .inside }
 
 take-requires : tie.Need-take-requires Inv-loop μ-loop
 take-requires c κs = search needs
@@ -63,14 +43,14 @@ enum-told c = search needs
 
 returns : tie.Need-returns Inv-loop μ-loop
 returns c =
-    let a = c .before .before .before .before .before .before .before .before .pre .1 in
-    absurd (never-short (c .before .before .before .before .before .before .loop .inv (a .left) (a .along) .along) (c .before .before .before .before .before .width .ensures) (c .before .before .take .ensures) (c .enum-told .given .1))
+    let a = c .before .before .before .before .before .before .before .before .before .pre .1 in
+    absurd (never-short (deciding-drifted (c .before .before .before .before .before .before .drift .ensures) (c .before .before .before .before .before .before .before .loop .inv (a .left) (a .along)) .along) (c .before .before .before .before .width .ensures) (c .before .before .take .ensures) (c .enum-told .given .1))
 
 looked-requires : tie.Need-looked-requires Inv-loop μ-loop
 looked-requires c κs =
-    let a = c .before .before .before .before .before .before .before .before .before .pre .1 in
-    let g = c .before .before .before .before .before .before .before .loop .inv (a .left) (a .along) in
-    (record { table = c .before .before .before .before .before .before .before .before .before .pre .0; inside = g .along .onward .tidy .inside }, c .before .before .before .before .before .before .width .ensures, value-fits g (c .before .before .before .before .before .before .width .ensures) (c .before .before .before .take .ensures) (c .before .v .given .1))
+    let a = c .before .before .before .before .before .before .before .before .before .before .pre .1 in
+    let g = deciding-drifted (c .before .before .before .before .before .before .before .drift .ensures) (c .before .before .before .before .before .before .before .before .loop .inv (a .left) (a .along)) in
+    (record { table = c .before .before .before .before .before .before .before .before .before .before .pre .0; inside = g .along .onward .tidy .inside }, c .before .before .before .before .before .width .ensures, value-fits g (c .before .before .before .before .before .width .ensures) (c .before .before .before .take .ensures) (c .before .v .given .1))
 
 enum-told-2 : tie.Need-enum-told-2 Inv-loop μ-loop
 enum-told-2 c = search needs
@@ -79,19 +59,19 @@ enum-told-3 : tie.Need-enum-told-3 Inv-loop μ-loop
 enum-told-3 c = search needs
 
 returns-2 : tie.Need-returns-2 Inv-loop μ-loop
-returns-2 c = λ es a. fails (c .before .before .before .before .before .before .before .before .before .before .loop .inv es a) (c .before .before .before .before .before .before .before .before .before .width .ensures) (c .before .before .before .before .before .before .take .ensures) (c .before .before .before .before .v .given .1) (c .before .before .looked .ensures) (c .enum-told3 .given .1)
+returns-2 c = λ es a. fails (deciding-drifted (c .before .before .before .before .before .before .before .before .before .before .drift .ensures) (c .before .before .before .before .before .before .before .before .before .before .before .loop .inv es a)) (c .before .before .before .before .before .before .before .before .width .ensures) (c .before .before .before .before .before .before .take .ensures) (c .before .before .before .before .v .given .1) (c .before .before .looked .ensures) (c .enum-told3 .given .1)
 
 enum-told-4 : tie.Need-enum-told-4 Inv-loop μ-loop
 enum-told-4 c = search needs
 
 returns-3 : tie.Need-returns-3 Inv-loop μ-loop
-returns-3 c = λ es a. ends (c .before .before .before .before .before .before .before .before .before .before .loop .inv es a) (c .before .before .before .before .before .before .before .before .before .width .ensures) (c .before .before .before .before .before .before .take .ensures) (c .before .before .before .before .v .given .1) (c .before .before .looked .ensures) (c .enum-told4 .given .1)
+returns-3 c = λ es a. ends (deciding-drifted (c .before .before .before .before .before .before .before .before .before .before .drift .ensures) (c .before .before .before .before .before .before .before .before .before .before .before .loop .inv es a)) (c .before .before .before .before .before .before .before .before .width .ensures) (c .before .before .before .before .before .before .take .ensures) (c .before .before .before .before .v .given .1) (c .before .before .looked .ensures) (c .enum-told4 .given .1)
 
 advance-requires : tie.Need-advance-requires Inv-loop μ-loop
 advance-requires c κs =
-    let a = c .before .before .before .before .before .before .before .before .before .before .before .before .pre .1 in
-    let o = c .before .before .before .before .before .before .before .before .before .before .loop .inv (a .left) (a .along) .along .onward in
-    (record { table = c .before .before .before .before .before .before .before .before .before .before .before .before .pre .0; inside = o .tidy .inside }, o .tidy)
+    let a = c .before .before .before .before .before .before .before .before .before .before .before .before .before .pre .1 in
+    let o = deciding-drifted (c .before .before .before .before .before .before .before .before .before .before .drift .ensures) (c .before .before .before .before .before .before .before .before .before .before .before .loop .inv (a .left) (a .along)) .along .onward in
+    (record { table = c .before .before .before .before .before .before .before .before .before .before .before .before .before .pre .0; inside = o .tidy .inside }, o .tidy)
 
 enum-known-u : tie.Need-enum-known-u Inv-loop μ-loop
 enum-known-u c = search needs
@@ -100,15 +80,16 @@ enum-told-5 : tie.Need-enum-told-5 Inv-loop μ-loop
 enum-told-5 c = search needs
 
 returns-4 : tie.Need-returns-4 Inv-loop μ-loop
-returns-4 c = λ es a. marks (c .before .before .before .before .before .before .before .before .before .before .before .before .before .loop .inv es a) (c .before .before .before .before .before .before .before .before .before .before .before .before .width .ensures) (c .before .before .before .before .before .before .before .before .before .take .ensures) (c .before .before .before .before .before .before .before .v .given .1) (c .before .before .before .before .before .looked .ensures) (c .before .before .before .enum-told2 .given .1) (c .before .before .advance .ensures) (c .enum-told5 .given .1)
+returns-4 c = λ es a. marks (deciding-drifted (c .before .before .before .before .before .before .before .before .before .before .before .before .before .drift .ensures) (c .before .before .before .before .before .before .before .before .before .before .before .before .before .before .loop .inv es a)) (c .before .before .before .before .before .before .before .before .before .before .before .width .ensures) (c .before .before .before .before .before .before .before .before .before .take .ensures) (c .before .before .before .before .before .before .before .v .given .1) (c .before .before .before .before .before .looked .ensures) (c .before .before .before .enum-told2 .given .1) (c .before .before .advance .ensures) (c .enum-told5 .given .1)
 
-loop-less-2 : tie.Need-loop-less-2 Inv-loop μ-loop
-loop-less-2 c =
-    let a = c .before .before .before .before .before .before .before .before .before .before .before .before .before .before .before .before .pre .1 in
-    less (c .before .before .before .before .before .before .before .before .before .before .before .before .before .before .loop .inv (a .left) (a .along) .along) (c .before .before .before .before .before .before .before .before .before .before .before .before .before .width .ensures) (c .before .before .before .before .before .before .before .before .before .before .take .ensures) (c .before .before .before .before .before .before .before .before .v .given .1)
+loop-less : tie.Need-loop-less Inv-loop μ-loop
+loop-less c =
+    let a = c .before .before .before .before .before .before .before .before .before .before .before .before .before .before .before .before .before .pre .1 in
+    let l = less (deciding-drifted (c .before .before .before .before .before .before .before .before .before .before .before .before .before .before .drift .ensures) (c .before .before .before .before .before .before .before .before .before .before .before .before .before .before .before .loop .inv (a .left) (a .along)) .along) (c .before .before .before .before .before .before .before .before .before .before .before .before .width .ensures) (c .before .before .before .before .before .before .before .before .before .before .take .ensures) (c .before .before .before .before .before .before .before .before .v .given .1) in
+    omega (arith, further (c .before .before .before .before .before .before .before .before .before .before .before .before .before .before .drift .ensures))
 
-loop-again-2 : tie.Need-loop-again-2 Inv-loop μ-loop
-loop-again-2 c = λ es a. deciding-on (c .before .before .before .before .before .before .before .before .before .before .before .before .before .before .loop .inv es a) (c .before .before .before .before .before .before .before .before .before .before .before .before .before .width .ensures) (c .before .before .before .before .before .before .before .before .before .before .take .ensures) (c .before .before .before .before .before .before .before .before .v .given .1) (c .before .before .before .before .before .before .looked .ensures) (c .before .before .before .before .enum-told2 .given .1) (c .before .before .before .advance .ensures) (c .before .u .given .1)
+loop-again : tie.Need-loop-again Inv-loop μ-loop
+loop-again c = λ es a. deciding-on (deciding-drifted (c .before .before .before .before .before .before .before .before .before .before .before .before .before .before .drift .ensures) (c .before .before .before .before .before .before .before .before .before .before .before .before .before .before .before .loop .inv es a)) (c .before .before .before .before .before .before .before .before .before .before .before .before .width .ensures) (c .before .before .before .before .before .before .before .before .before .before .take .ensures) (c .before .before .before .before .before .before .before .before .v .given .1) (c .before .before .before .before .before .before .looked .ensures) (c .before .before .before .before .enum-told2 .given .1) (c .before .before .before .advance .ensures) (c .before .u .given .1)
 
 pub metric-spec : {M : Type 1} → statement M
 metric-spec =
@@ -117,12 +98,8 @@ metric-spec =
     Inv-loop
     μ-loop
     loop-holds
+    drift-requires
     width-requires
-    quiet-requires
-    later-requires
-    add-t15
-    loop-less
-    loop-again
     take-requires
     enum-known-v
     enum-told
@@ -137,5 +114,5 @@ metric-spec =
     enum-known-u
     enum-told-5
     returns-4
-    loop-less-2
-    loop-again-2)
+    loop-less
+    loop-again)

@@ -7,9 +7,9 @@ use borrow.Author.Needs.{needs}
 use borrow.Author.Tests.{not-false}
 use Rattle.bits.proofs.Bytes.{below-known}
 use Rattle.distance.specs.declared.Scale.the-variants.{Tenths}
-use Rattle.telegram.proofs.Laying.{few-bits}
-use Rattle.telegram.proofs.Quieting.{less-past, tells-past}
-use Rattle.telegram.proofs.Taking.{inside, never-short, less}
+use Rattle.telegram.proofs.Drifting.{further}
+use Rattle.telegram.proofs.Quieting.{tells-drifted}
+use Rattle.telegram.proofs.Taking.{never-short, less}
 use Rattle.telegram.proofs.Telling.{Retelling, retelling-first, size-kept, sendable, tells-all, along-then, tells-on, tells-same-value}
 use Rattle.telegram.proofs.normaliser.patch.Statement.{statement}
 use Rattle.telegram.proofs.normaliser.patch.Tie as tie
@@ -28,31 +28,15 @@ loop-holds c =
     let out = c .before .before .before .args .out .now in
     retelling-first (c .before .before .before .pre) (below-known 256 out (λ i. c .before .slice-known .given i .fits)) Tenths refl
 
-width-requires : tie.Need-width-requires Inv-loop μ-loop
-width-requires c κs = record { table = c .before .before .rows .ensures; inside = c .before .loop .inv .along .onward .tidy .inside }
+-- fields that are sent as they are
 
-quiet-requires : tie.Need-quiet-requires Inv-loop μ-loop
-quiet-requires c κs = record { table = c .before .before .before .before .rows .ensures; inside = c .before .before .before .loop .inv .along .onward .tidy .inside }
-
--- a field that is sent as it is
-
-later-requires : tie.Need-later-requires Inv-loop μ-loop
-later-requires c κs =
-    (record { table = c .before .before .before .before .before .before .before .rows .ensures; inside = c .before .before .before .before .before .before .loop .inv .along .onward .tidy .inside }, c .before .before .quiet .ensures (c .before .if1 .taken) .0)
-
-add-t21 : tie.Need-add-t21 Inv-loop μ-loop
-add-t21 c =
-    let g = c .before .before .before .before .before .before .before .loop .inv in
-    let few = few-bits (g .laid .telegram) (g .laid .size) in
-    omega (arith, inside (g .along) (c .before .before .before .before .before .width .ensures))
-
-loop-less : tie.Need-loop-less Inv-loop μ-loop
-loop-less c = less-past (c .before .before .before .before .before .before .before .loop .inv .along) (c .before .before .before .before .before .width .ensures)
-
-loop-again : tie.Need-loop-again Inv-loop μ-loop
-loop-again c = let q = c .before .before .before .quiet .ensures (c .before .before .if1 .taken) in tells-past (c .before .before .before .before .before .before .before .loop .inv) (q .0) (q .1) (c .before .before .before .before .before .width .ensures) (c .later .ensures)
+drift-requires : tie.Need-drift-requires Inv-loop μ-loop
+drift-requires c κs = (c .before .before .rows .ensures, c .before .loop .inv .along .onward .tidy)
 
 -- any other
+
+width-requires : tie.Need-width-requires Inv-loop μ-loop
+width-requires c κs = record { table = c .before .before .before .before .before .rows .ensures; inside = (tells-drifted (c .before .before .drift .ensures) (c .before .before .before .before .loop .inv)) .along .onward .tidy .inside }
 
 take-requires : tie.Need-take-requires Inv-loop μ-loop
 take-requires c κs = search needs
@@ -64,15 +48,15 @@ enum-told : tie.Need-enum-told Inv-loop μ-loop
 enum-told c = search needs
 
 same-length : tie.Need-same-length Inv-loop μ-loop
-same-length c = size-kept (c .before .before .before .before .before .before .before .before .loop .inv)
+same-length c = size-kept (tells-drifted (c .before .before .before .before .before .before .before .drift .ensures) (c .before .before .before .before .before .before .before .before .before .loop .inv))
 
 returns : tie.Need-returns Inv-loop μ-loop
-returns c = absurd (never-short (c .before .before .before .before .before .before .before .before .loop .inv .along) (c .before .before .before .before .before .before .width .ensures) (c .before .before .take .ensures) (c .enum-told .given .1))
+returns c = absurd (never-short ((tells-drifted (c .before .before .before .before .before .before .before .drift .ensures) (c .before .before .before .before .before .before .before .before .before .loop .inv)) .along) (c .before .before .before .before .width .ensures) (c .before .before .take .ensures) (c .enum-told .given .1))
 
 advance-requires : tie.Need-advance-requires Inv-loop μ-loop
 advance-requires c κs =
-    let o = c .before .before .before .before .before .before .before .before .before .before .loop .inv .along .onward in
-    (record { table = c .before .before .before .before .before .before .before .before .before .before .before .rows .ensures; inside = o .tidy .inside }, o .tidy)
+    let o = (tells-drifted (c .before .before .before .before .before .before .before .before .before .drift .ensures) (c .before .before .before .before .before .before .before .before .before .before .before .loop .inv)) .along .onward in
+    (record { table = c .before .before .before .before .before .before .before .before .before .before .before .before .rows .ensures; inside = o .tidy .inside }, o .tidy)
 
 enum-known-u : tie.Need-enum-known-u Inv-loop μ-loop
 enum-known-u c = search needs
@@ -81,42 +65,46 @@ enum-told-2 : tie.Need-enum-told-2 Inv-loop μ-loop
 enum-told-2 c = search needs
 
 same-length-2 : tie.Need-same-length-2 Inv-loop μ-loop
-same-length-2 c = size-kept (c .before .before .before .before .before .before .before .before .before .before .before .before .before .loop .inv)
+same-length-2 c = size-kept (tells-drifted (c .before .before .before .before .before .before .before .before .before .before .before .before .drift .ensures) (c .before .before .before .before .before .before .before .before .before .before .before .before .before .before .loop .inv))
 
 returns-2 : tie.Need-returns-2 Inv-loop μ-loop
 returns-2 c =
-    let out = c .before .before .before .before .before .before .before .before .before .before .before .before .before .before .before .before .before .args .out .now in
-    tells-all (c .before .before .before .before .before .before .before .before .before .before .before .before .before .loop .inv) (c .before .before .before .before .before .before .before .before .before .before .before .width .ensures) (c .before .before .before .before .before .before .before .take .ensures) (c .before .before .before .before .before .v .given .1) (c .before .before .advance .ensures) (c .enum-told2 .given .1) (c .before .before .before .before .before .before .before .before .before .before .before .before .before .before .before .before .before .pre) (below-known 256 out (λ i. c .before .before .before .before .before .before .before .before .before .before .before .before .before .before .before .slice-known .given i .fits))
+    let out = c .before .before .before .before .before .before .before .before .before .before .before .before .before .before .before .before .before .before .args .out .now in
+    tells-all (tells-drifted (c .before .before .before .before .before .before .before .before .before .before .before .before .drift .ensures) (c .before .before .before .before .before .before .before .before .before .before .before .before .before .before .loop .inv)) (c .before .before .before .before .before .before .before .before .before .width .ensures) (c .before .before .before .before .before .before .before .take .ensures) (c .before .before .before .before .before .v .given .1) (c .before .before .advance .ensures) (c .enum-told2 .given .1) (c .before .before .before .before .before .before .before .before .before .before .before .before .before .before .before .before .before .before .pre) (below-known 256 out (λ i. c .before .before .before .before .before .before .before .before .before .before .before .before .before .before .before .before .slice-known .given i .fits))
 
 retell-requires : tie.Need-retell-requires Inv-loop μ-loop
 retell-requires c κs =
-    let g = c .before .before .before .before .before .before .before .before .before .before .before .before .before .before .before .loop .inv in
-    (record { table = c .before .before .before .before .before .before .before .before .before .before .before .before .before .before .before .before .rows .ensures; inside = g .along .onward .tidy .inside }, sendable g (c .before .before .before .before .before .before .before .before .before .before .before .before .before .width .ensures) (c .before .before .before .before .before .before .before .before .before .take .ensures) (c .before .before .before .before .before .before .before .v .given .1), record { left = _; along = along-then g (c .before .before .before .before .before .before .before .before .before .before .before .before .before .width .ensures) (c .before .before .before .before .before .before .before .before .before .take .ensures) (c .before .before .before .before .before .before .before .v .given .1) (c .before .before .before .before .advance .ensures) (c .before .before .u .given .1) })
+    let g = (tells-drifted (c .before .before .before .before .before .before .before .before .before .before .before .before .before .before .drift .ensures) (c .before .before .before .before .before .before .before .before .before .before .before .before .before .before .before .before .loop .inv)) in
+    (record { table = c .before .before .before .before .before .before .before .before .before .before .before .before .before .before .before .before .before .rows .ensures; inside = g .along .onward .tidy .inside }, sendable g (c .before .before .before .before .before .before .before .before .before .before .before .width .ensures) (c .before .before .before .before .before .before .before .before .before .take .ensures) (c .before .before .before .before .before .before .before .v .given .1), record { left = _; along = along-then g (c .before .before .before .before .before .before .before .before .before .before .before .width .ensures) (c .before .before .before .before .before .before .before .before .before .take .ensures) (c .before .before .before .before .before .before .before .v .given .1) (c .before .before .before .before .advance .ensures) (c .before .before .u .given .1) })
 
 -- it changes
 
 put-requires : tie.Need-put-requires Inv-loop μ-loop
 put-requires c κs = search needs
 
-loop-less-2 : tie.Need-loop-less-2 Inv-loop μ-loop
-loop-less-2 c = less (c .before .before .before .before .before .before .before .before .before .before .before .before .before .before .before .before .before .before .before .before .before .before .loop .inv .along) (c .before .before .before .before .before .before .before .before .before .before .before .before .before .before .before .before .before .before .before .before .width .ensures) (c .before .before .before .before .before .before .before .before .before .before .before .before .before .before .before .before .take .ensures) (c .before .before .before .before .before .before .before .before .before .before .before .before .before .before .v .given .1)
+loop-less : tie.Need-loop-less Inv-loop μ-loop
+loop-less c =
+    let l = less ((tells-drifted (c .before .before .before .before .before .before .before .before .before .before .before .before .before .before .before .before .before .before .before .before .before .drift .ensures) (c .before .before .before .before .before .before .before .before .before .before .before .before .before .before .before .before .before .before .before .before .before .before .before .loop .inv)) .along) (c .before .before .before .before .before .before .before .before .before .before .before .before .before .before .before .before .before .before .width .ensures) (c .before .before .before .before .before .before .before .before .before .before .before .before .before .before .before .before .take .ensures) (c .before .before .before .before .before .before .before .before .before .before .before .before .before .before .v .given .1) in
+    omega (arith, further (c .before .before .before .before .before .before .before .before .before .before .before .before .before .before .before .before .before .before .before .before .before .drift .ensures))
 
-loop-again-2 : tie.Need-loop-again-2 Inv-loop μ-loop
-loop-again-2 c =
-    let g = c .before .before .before .before .before .before .before .before .before .before .before .before .before .before .before .before .before .before .before .before .before .before .loop .inv in
-    let a = along-then g (c .before .before .before .before .before .before .before .before .before .before .before .before .before .before .before .before .before .before .before .before .width .ensures) (c .before .before .before .before .before .before .before .before .before .before .before .before .before .before .before .before .take .ensures) (c .before .before .before .before .before .before .before .before .before .before .before .before .before .before .v .given .1) (c .before .before .before .before .before .before .before .before .before .before .before .advance .ensures) (c .before .before .before .before .before .before .before .before .before .u .given .1) in
-    tells-on g (c .before .before .before .before .before .before .before .before .before .before .before .before .before .before .before .before .before .before .before .before .width .ensures) (c .before .before .before .before .before .before .before .before .before .before .before .before .before .before .before .before .take .ensures) (c .before .before .before .before .before .before .before .before .before .before .before .before .before .before .v .given .1) (c .before .before .before .before .before .before .before .before .before .before .before .advance .ensures) (c .before .before .before .before .before .before .before .before .before .u .given .1) (c .before .before .before .before .before .before .retell .ensures _ a) (c .before .before .put .ensures) (below-known 256 (c .before .before .put .last .0) (λ i. c .slice-known2 .given i .fits))
+loop-again : tie.Need-loop-again Inv-loop μ-loop
+loop-again c =
+    let g = (tells-drifted (c .before .before .before .before .before .before .before .before .before .before .before .before .before .before .before .before .before .before .before .before .before .drift .ensures) (c .before .before .before .before .before .before .before .before .before .before .before .before .before .before .before .before .before .before .before .before .before .before .before .loop .inv)) in
+    let a = along-then g (c .before .before .before .before .before .before .before .before .before .before .before .before .before .before .before .before .before .before .width .ensures) (c .before .before .before .before .before .before .before .before .before .before .before .before .before .before .before .before .take .ensures) (c .before .before .before .before .before .before .before .before .before .before .before .before .before .before .v .given .1) (c .before .before .before .before .before .before .before .before .before .before .before .advance .ensures) (c .before .before .before .before .before .before .before .before .before .u .given .1) in
+    tells-on g (c .before .before .before .before .before .before .before .before .before .before .before .before .before .before .before .before .before .before .width .ensures) (c .before .before .before .before .before .before .before .before .before .before .before .before .before .before .before .before .take .ensures) (c .before .before .before .before .before .before .before .before .before .before .before .before .before .before .v .given .1) (c .before .before .before .before .before .before .before .before .before .before .before .advance .ensures) (c .before .before .before .before .before .before .before .before .before .u .given .1) (c .before .before .before .before .before .before .retell .ensures _ a) (c .before .before .put .ensures) (below-known 256 (c .before .before .put .last .0) (λ i. c .slice-known2 .given i .fits))
 
 -- it stays
 
-loop-less-3 : tie.Need-loop-less-3 Inv-loop μ-loop
-loop-less-3 c = less (c .before .before .before .before .before .before .before .before .before .before .before .before .before .before .before .before .before .before .loop .inv .along) (c .before .before .before .before .before .before .before .before .before .before .before .before .before .before .before .before .width .ensures) (c .before .before .before .before .before .before .before .before .before .before .before .before .take .ensures) (c .before .before .before .before .before .before .before .before .before .before .v .given .1)
+loop-less-2 : tie.Need-loop-less-2 Inv-loop μ-loop
+loop-less-2 c =
+    let l = less ((tells-drifted (c .before .before .before .before .before .before .before .before .before .before .before .before .before .before .before .before .before .drift .ensures) (c .before .before .before .before .before .before .before .before .before .before .before .before .before .before .before .before .before .before .before .loop .inv)) .along) (c .before .before .before .before .before .before .before .before .before .before .before .before .before .before .width .ensures) (c .before .before .before .before .before .before .before .before .before .before .before .before .take .ensures) (c .before .before .before .before .before .before .before .before .before .before .v .given .1) in
+    omega (arith, further (c .before .before .before .before .before .before .before .before .before .before .before .before .before .before .before .before .before .drift .ensures))
 
-loop-again-3 : tie.Need-loop-again-3 Inv-loop μ-loop
-loop-again-3 c =
-    let g = c .before .before .before .before .before .before .before .before .before .before .before .before .before .before .before .before .before .before .loop .inv in
-    let a = along-then g (c .before .before .before .before .before .before .before .before .before .before .before .before .before .before .before .before .width .ensures) (c .before .before .before .before .before .before .before .before .before .before .before .before .take .ensures) (c .before .before .before .before .before .before .before .before .before .before .v .given .1) (c .before .before .before .before .before .before .before .advance .ensures) (c .before .before .before .before .before .u .given .1) in
-    tells-same-value g (c .before .before .before .before .before .before .before .before .before .before .before .before .before .before .before .before .width .ensures) (c .before .before .before .before .before .before .before .before .before .before .before .before .take .ensures) (c .before .before .before .before .before .before .before .before .before .before .v .given .1) (c .before .before .before .before .before .before .before .advance .ensures) (c .before .before .before .before .before .u .given .1) (c .before .before .retell .ensures _ a) (c .if2 .left)
+loop-again-2 : tie.Need-loop-again-2 Inv-loop μ-loop
+loop-again-2 c =
+    let g = (tells-drifted (c .before .before .before .before .before .before .before .before .before .before .before .before .before .before .before .before .before .drift .ensures) (c .before .before .before .before .before .before .before .before .before .before .before .before .before .before .before .before .before .before .before .loop .inv)) in
+    let a = along-then g (c .before .before .before .before .before .before .before .before .before .before .before .before .before .before .width .ensures) (c .before .before .before .before .before .before .before .before .before .before .before .before .take .ensures) (c .before .before .before .before .before .before .before .before .before .before .v .given .1) (c .before .before .before .before .before .before .before .advance .ensures) (c .before .before .before .before .before .u .given .1) in
+    tells-same-value g (c .before .before .before .before .before .before .before .before .before .before .before .before .before .before .width .ensures) (c .before .before .before .before .before .before .before .before .before .before .before .before .take .ensures) (c .before .before .before .before .before .before .before .before .before .before .v .given .1) (c .before .before .before .before .before .before .before .advance .ensures) (c .before .before .before .before .before .u .given .1) (c .before .before .retell .ensures _ a) (c .if1 .left)
 
 pub patch-spec : {M : Type 1} → statement M
 patch-spec =
@@ -126,12 +114,8 @@ patch-spec =
     μ-loop
     rows-requires
     loop-holds
+    drift-requires
     width-requires
-    quiet-requires
-    later-requires
-    add-t21
-    loop-less
-    loop-again
     take-requires
     enum-known-v
     enum-told
@@ -144,7 +128,7 @@ patch-spec =
     returns-2
     retell-requires
     put-requires
+    loop-less
+    loop-again
     loop-less-2
-    loop-again-2
-    loop-less-3
-    loop-again-3)
+    loop-again-2)

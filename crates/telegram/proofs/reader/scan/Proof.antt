@@ -4,10 +4,9 @@ use mathlib.Core.Path.{refl, sym, ap, _∙_}
 use Prim.Native.Nat.{_-_}
 use native.Mathlib.Omega.{arith}
 use borrow.Author.Needs.{needs}
-use denote.Ref.{now}
 use Rattle.telegram.specs.Reader.{answerOf}
-use Rattle.telegram.proofs.Grouping.{scans-passed, less-passed}
-use Rattle.telegram.proofs.Scanning.{Scans, scans-first, scans-here, scans-on, fits, less, ends-short, ends-broken, ends-well, ends-trailing}
+use Rattle.telegram.proofs.Drifting.{further}
+use Rattle.telegram.proofs.Scanning.{Scans, scans-first, scans-here, scans-drifted, scans-slight, less-slight, scans-on, fits, less, ends-short, ends-broken, ends-well, ends-trailing}
 use Rattle.telegram.proofs.reader.scan.Statement.{statement}
 use Rattle.telegram.proofs.reader.scan.Tie as tie
 
@@ -28,27 +27,18 @@ loop-holds c = let a = c .before .before .before .pre in scans-here (scans-first
 
 -- what no rule reads
 
-pass-requires : tie.Need-pass-requires Inv-loop μ-loop
-pass-requires c κs =
-    let i = c .before .loop .inv in
-    (record { table = i .drives .table; inside = i .drives .sound .tidy .inside }, i .within, i .low)
+drift-requires : tie.Need-drift-requires Inv-loop μ-loop
+drift-requires c κs = let d = c .before .loop .inv .drives in (d .table, d .sound .tidy)
 
 add-count : tie.Need-add-count Inv-loop μ-loop
 add-count c =
-    let a = c .before .before .before .before .before .before .before .before .before .before .args in
-    let r = scans-passed (now (a .s)) (a .n) _ _ _ (c .before .before .before .before .pass .ensures) (c .before .before .before .before .before .before .loop .inv) in
-    omega (arith, r .few, r .within, r .low)
-
-loop-less : tie.Need-loop-less Inv-loop μ-loop
-loop-less c = let a = c .before .before .before .before .before .before .before .before .before .before .args in less-passed (now (a .s)) (a .n) _ _ _ (c .before .before .before .before .pass .ensures) (c .before .before .before .before .before .before .loop .inv) (c .before .before .if1 .taken)
-
-loop-again : tie.Need-loop-again Inv-loop μ-loop
-loop-again c = let a = c .before .before .before .before .before .before .before .before .before .before .args in scans-passed (now (a .s)) (a .n) _ _ _ (c .before .before .before .before .pass .ensures) (c .before .before .before .before .before .before .loop .inv)
-
--- a field that a rule reads
+    let i = scans-drifted (c .before .before .before .before .before .loop .inv) (c .before .before .before .drift .ensures) in
+    omega (arith, i .few, i .within, i .low)
 
 width-requires : tie.Need-width-requires Inv-loop μ-loop
-width-requires c κs = let d = c .before .before .before .before .before .before .loop .inv .drives in record { table = d .table; inside = d .sound .tidy .inside }
+width-requires c κs =
+    let i = scans-drifted (c .before .before .before .before .before .before .loop .inv) (c .before .before .before .before .drift .ensures) in
+    record { table = i .drives .table; inside = i .drives .sound .tidy .inside }
 
 take-requires : tie.Need-take-requires Inv-loop μ-loop
 take-requires c κs = search needs
@@ -67,17 +57,50 @@ refuse-requires c κs = search needs
 
 returns : tie.Need-returns Inv-loop μ-loop
 returns c =
-    c .refuse .ensures
-    ∙ sym (ap answerOf (ends-short (c .before .before .before .before .before .before .before .before .before .before .before .before .loop .inv) (c .before .before .before .before .before .width .ensures) (c .before .before .before .before .take .ensures) (c .before .before .enum-told .given .1) (c .before .place .ensures)))
+    let i = scans-drifted (c .before .before .before .before .before .before .before .before .before .before .before .before .loop .inv) (c .before .before .before .before .before .before .before .before .before .before .drift .ensures) in
+    c .refuse .ensures ∙ sym (ap answerOf (ends-short i (c .before .before .before .before .before .width .ensures) (c .before .before .before .before .take .ensures) (c .before .before .enum-told .given .1) (c .before .place .ensures)))
+
+-- a value of which nothing is kept
+
+ease-requires : tie.Need-ease-requires Inv-loop μ-loop
+ease-requires c κs =
+    let i = scans-drifted (c .before .before .before .before .before .before .before .before .before .before .before .before .loop .inv) (c .before .before .before .before .before .before .before .before .before .before .drift .ensures) in
+    (i .drives .table, i .drives .sound .tidy)
+
+enum-known-u : tie.Need-enum-known-u Inv-loop μ-loop
+enum-known-u c = search needs
+
+add-count-2 : tie.Need-add-count-2 Inv-loop μ-loop
+add-count-2 c =
+    let i = scans-drifted (c .before .before .before .before .before .before .before .before .before .before .before .before .before .before .before .before .loop .inv) (c .before .before .before .before .before .before .before .before .before .before .before .before .before .before .drift .ensures) in
+    omega (arith, i .few, i .within, i .low)
+
+loop-less : tie.Need-loop-less Inv-loop μ-loop
+loop-less c =
+    let i = scans-drifted (c .before .before .before .before .before .before .before .before .before .before .before .before .before .before .before .before .loop .inv) (c .before .before .before .before .before .before .before .before .before .before .before .before .before .before .drift .ensures) in
+    let q = rw (c .before .u .given .1) at (c .before .before .before .ease .ensures) in
+    let l = less-slight i (c .before .before .before .before .before .before .before .before .before .width .ensures) (c .before .before .before .before .before .before .before .before .take .ensures) (c .before .before .before .before .before .before .v .given .1) (q .0) (q .1) (q .2) in
+    omega (arith, further (c .before .before .before .before .before .before .before .before .before .before .before .before .before .before .drift .ensures))
+
+loop-again : tie.Need-loop-again Inv-loop μ-loop
+loop-again c =
+    let i = scans-drifted (c .before .before .before .before .before .before .before .before .before .before .before .before .before .before .before .before .loop .inv) (c .before .before .before .before .before .before .before .before .before .before .before .before .before .before .drift .ensures) in
+    let q = rw (c .before .u .given .1) at (c .before .before .before .ease .ensures) in
+    scans-here (scans-slight i (c .before .before .before .before .before .before .before .before .before .width .ensures) (c .before .before .before .before .before .before .before .before .take .ensures) (c .before .before .before .before .before .before .v .given .1) (q .0) (q .1) (q .2))
+
+enum-told-2 : tie.Need-enum-told-2 Inv-loop μ-loop
+enum-told-2 c = search needs
+
+-- any other
 
 slice-aggregate-turn : tie.Need-slice-aggregate-turn Inv-loop μ-loop
-slice-aggregate-turn c = sym (c .before .before .before .before .before .before .before .before .before .before .before .before .before .loop .inv .drives .long)
+slice-aggregate-turn c = sym (c .before .before .before .before .before .before .before .before .before .before .before .before .before .before .before .before .before .loop .inv .drives .long)
 
 turn-requires : tie.Need-turn-requires Inv-loop μ-loop
 turn-requires c κs =
-    let i = c .before .before .before .before .before .before .before .before .before .before .before .before .before .loop .inv in
+    let i = scans-drifted (c .before .before .before .before .before .before .before .before .before .before .before .before .before .before .before .before .before .loop .inv) (c .before .before .before .before .before .before .before .before .before .before .before .before .before .before .before .drift .ensures) in
     record {
-      stepping = record { table = i .drives .table; sound = i .drives .sound; low = omega (arith, i .within, i .low); fits = fits (c .before .before .before .before .before .before .before .before .before .before .before .before .before .loop .inv) (c .before .before .before .before .before .before .width .ensures) (c .before .before .before .before .before .take .ensures) (c .before .before .before .v .given .1) };
+      stepping = record { table = i .drives .table; sound = i .drives .sound; low = omega (arith, i .within, i .low); fits = fits i (c .before .before .before .before .before .before .before .before .before .before .width .ensures) (c .before .before .before .before .before .before .before .before .before .take .ensures) (c .before .before .before .before .before .before .before .v .given .1) };
       inside = omega (arith, i .drives .noted, i .within, i .low, i .drives .long);
     }
 
@@ -92,17 +115,21 @@ refuse-requires-2 c κs = search needs
 
 returns-2 : tie.Need-returns-2 Inv-loop μ-loop
 returns-2 c =
-    c .refuse2 .ensures
-    ∙ sym (ap answerOf (ends-broken (c .before .before .before .before .before .before .before .before .before .before .before .before .before .before .before .before .before .before .before .loop .inv) (c .before .before .before .before .before .before .before .before .before .before .before .before .width .ensures) (c .before .before .before .before .before .before .before .before .before .before .before .take .ensures) (c .before .before .before .before .before .before .before .before .before .v .given .1) (c .before .before .before .before .before .turn .ensures) (c .before .before .before .kind .given .1) (c .before .place2 .ensures)))
+    let i = scans-drifted (c .before .before .before .before .before .before .before .before .before .before .before .before .before .before .before .before .before .before .before .before .before .before .before .loop .inv) (c .before .before .before .before .before .before .before .before .before .before .before .before .before .before .before .before .before .before .before .before .before .drift .ensures) in
+    c .refuse2 .ensures ∙ sym (ap answerOf (ends-broken i (c .before .before .before .before .before .before .before .before .before .before .before .before .before .before .before .before .width .ensures) (c .before .before .before .before .before .before .before .before .before .before .before .before .before .before .before .take .ensures) (c .before .before .before .before .before .before .before .before .before .before .before .before .before .v .given .1) (c .before .before .before .before .before .turn .ensures) (c .before .before .before .kind .given .1) (c .before .place2 .ensures)))
 
-enum-told-2 : tie.Need-enum-told-2 Inv-loop μ-loop
-enum-told-2 c = search needs
+enum-told-3 : tie.Need-enum-told-3 Inv-loop μ-loop
+enum-told-3 c = search needs
 
-add-t30 : tie.Need-add-t30 Inv-loop μ-loop
-add-t30 c = let i = c .before .before .before .before .before .before .before .before .before .before .before .before .before .before .before .before .before .before .loop .inv in omega (arith, i .few, i .within, i .low)
+add-t33 : tie.Need-add-t33 Inv-loop μ-loop
+add-t33 c =
+    let i = scans-drifted (c .before .before .before .before .before .before .before .before .before .before .before .before .before .before .before .before .before .before .before .before .before .before .loop .inv) (c .before .before .before .before .before .before .before .before .before .before .before .before .before .before .before .before .before .before .before .before .drift .ensures) in
+    omega (arith, i .few, i .within, i .low)
 
 returns-3 : tie.Need-returns-3 Inv-loop μ-loop
-returns-3 c = ends-well (c .before .before .before .before .before .before .before .before .before .before .before .before .before .before .before .before .before .before .loop .inv) (c .before .before .before .before .before .before .before .before .before .before .before .width .ensures) (c .before .before .before .before .before .before .before .before .before .before .take .ensures) (c .before .before .before .before .before .before .before .before .v .given .1) (c .before .before .before .before .turn .ensures) (c .before .before .enum-told2 .given .1) (c .if2 .taken)
+returns-3 c =
+    let i = scans-drifted (c .before .before .before .before .before .before .before .before .before .before .before .before .before .before .before .before .before .before .before .before .before .before .loop .inv) (c .before .before .before .before .before .before .before .before .before .before .before .before .before .before .before .before .before .before .before .before .drift .ensures) in
+    ends-well i (c .before .before .before .before .before .before .before .before .before .before .before .before .before .before .before .width .ensures) (c .before .before .before .before .before .before .before .before .before .before .before .before .before .before .take .ensures) (c .before .before .before .before .before .before .before .before .before .before .before .before .v .given .1) (c .before .before .before .before .turn .ensures) (c .before .before .enum-told3 .given .1) (c .if1 .taken)
 
 place-requires-3 : tie.Need-place-requires-3 Inv-loop μ-loop
 place-requires-3 c κs = search needs
@@ -112,31 +139,39 @@ refuse-requires-3 c κs = search needs
 
 returns-4 : tie.Need-returns-4 Inv-loop μ-loop
 returns-4 c =
+    let i = scans-drifted (c .before .before .before .before .before .before .before .before .before .before .before .before .before .before .before .before .before .before .before .before .before .before .before .before .loop .inv) (c .before .before .before .before .before .before .before .before .before .before .before .before .before .before .before .before .before .before .before .before .before .before .drift .ensures) in
     c .refuse3 .ensures
-    ∙ sym (ap answerOf (ends-trailing (c .before .before .before .before .before .before .before .before .before .before .before .before .before .before .before .before .before .before .before .before .loop .inv) (c .before .before .before .before .before .before .before .before .before .before .before .before .before .width .ensures) (c .before .before .before .before .before .before .before .before .before .before .before .before .take .ensures) (c .before .before .before .before .before .before .before .before .before .before .v .given .1) (c .before .before .before .before .before .before .turn .ensures) (c .before .before .before .before .enum-told2 .given .1) (c .before .before .if2 .left) (c .before .place3 .ensures)))
+    ∙ sym (ap answerOf (ends-trailing i (c .before .before .before .before .before .before .before .before .before .before .before .before .before .before .before .before .before .width .ensures) (c .before .before .before .before .before .before .before .before .before .before .before .before .before .before .before .before .take .ensures) (c .before .before .before .before .before .before .before .before .before .before .before .before .before .before .v .given .1) (c .before .before .before .before .before .before .turn .ensures) (c .before .before .before .before .enum-told3 .given .1) (c .before .before .if1 .left) (c .before .place3 .ensures)))
 
 enum-known-after : tie.Need-enum-known-after Inv-loop μ-loop
 enum-known-after c = search needs
 
 slice-aggregate-keep : tie.Need-slice-aggregate-keep Inv-loop μ-loop
-slice-aggregate-keep c = sym (c .before .before .before .before .before .before .before .before .before .before .before .before .before .before .before .before .before .before .before .loop .inv .drives .long)
+slice-aggregate-keep c = sym (c .before .before .before .before .before .before .before .before .before .before .before .before .before .before .before .before .before .before .before .before .before .before .before .loop .inv .drives .long)
 
 keep-requires : tie.Need-keep-requires Inv-loop μ-loop
 keep-requires c κs =
-    let i = c .before .before .before .before .before .before .before .before .before .before .before .before .before .before .before .before .before .before .before .loop .inv in
+    let i = scans-drifted (c .before .before .before .before .before .before .before .before .before .before .before .before .before .before .before .before .before .before .before .before .before .before .before .loop .inv) (c .before .before .before .before .before .before .before .before .before .before .before .before .before .before .before .before .before .before .before .before .before .drift .ensures) in
     record {
-      stepping = record { table = i .drives .table; sound = i .drives .sound; low = omega (arith, i .within, i .low); fits = fits (c .before .before .before .before .before .before .before .before .before .before .before .before .before .before .before .before .before .before .before .loop .inv) (c .before .before .before .before .before .before .before .before .before .before .before .before .width .ensures) (c .before .before .before .before .before .before .before .before .before .before .before .take .ensures) (c .before .before .before .before .before .before .before .before .before .v .given .1) };
+      stepping = record { table = i .drives .table; sound = i .drives .sound; low = omega (arith, i .within, i .low); fits = fits i (c .before .before .before .before .before .before .before .before .before .before .before .before .before .before .before .before .width .ensures) (c .before .before .before .before .before .before .before .before .before .before .before .before .before .before .before .take .ensures) (c .before .before .before .before .before .before .before .before .before .before .before .before .before .v .given .1) };
       inside = omega (arith, i .drives .noted, i .within, i .low, i .drives .long);
     }
 
-add-count-2 : tie.Need-add-count-2 Inv-loop μ-loop
-add-count-2 c = let i = c .before .before .before .before .before .before .before .before .before .before .before .before .before .before .before .before .before .before .before .before .before .loop .inv in omega (arith, i .few, i .within, i .low)
+add-count-3 : tie.Need-add-count-3 Inv-loop μ-loop
+add-count-3 c =
+    let i = scans-drifted (c .before .before .before .before .before .before .before .before .before .before .before .before .before .before .before .before .before .before .before .before .before .before .before .before .before .loop .inv) (c .before .before .before .before .before .before .before .before .before .before .before .before .before .before .before .before .before .before .before .before .before .before .before .drift .ensures) in
+    omega (arith, i .few, i .within, i .low)
 
 loop-less-2 : tie.Need-loop-less-2 Inv-loop μ-loop
-loop-less-2 c = less (c .before .before .before .before .before .before .before .before .before .before .before .before .before .before .before .before .before .before .before .before .before .loop .inv) (c .before .before .before .before .before .before .before .before .before .before .before .before .before .before .width .ensures) (c .before .before .before .before .before .before .before .before .before .before .before .before .before .take .ensures) (c .before .before .before .before .before .before .before .before .before .before .before .v .given .1) (c .before .before .before .before .before .before .before .turn .ensures) (c .before .before .before .before .before .after .given .1)
+loop-less-2 c =
+    let i = scans-drifted (c .before .before .before .before .before .before .before .before .before .before .before .before .before .before .before .before .before .before .before .before .before .before .before .before .before .loop .inv) (c .before .before .before .before .before .before .before .before .before .before .before .before .before .before .before .before .before .before .before .before .before .before .before .drift .ensures) in
+    let l = less i (c .before .before .before .before .before .before .before .before .before .before .before .before .before .before .before .before .before .before .width .ensures) (c .before .before .before .before .before .before .before .before .before .before .before .before .before .before .before .before .before .take .ensures) (c .before .before .before .before .before .before .before .before .before .before .before .before .before .before .before .v .given .1) (c .before .before .before .before .before .before .before .turn .ensures) (c .before .before .before .before .before .after .given .1) in
+    omega (arith, further (c .before .before .before .before .before .before .before .before .before .before .before .before .before .before .before .before .before .before .before .before .before .before .before .drift .ensures))
 
 loop-again-2 : tie.Need-loop-again-2 Inv-loop μ-loop
-loop-again-2 c = scans-here (scans-on (c .before .before .before .before .before .before .before .before .before .before .before .before .before .before .before .before .before .before .before .before .before .loop .inv) (c .before .before .before .before .before .before .before .before .before .before .before .before .before .before .width .ensures) (c .before .before .before .before .before .before .before .before .before .before .before .before .before .take .ensures) (c .before .before .before .before .before .before .before .before .before .before .before .v .given .1) (c .before .before .before .before .before .before .before .turn .ensures) (c .before .before .before .before .before .after .given .1) (c .before .keep .ensures))
+loop-again-2 c =
+    let i = scans-drifted (c .before .before .before .before .before .before .before .before .before .before .before .before .before .before .before .before .before .before .before .before .before .before .before .before .before .loop .inv) (c .before .before .before .before .before .before .before .before .before .before .before .before .before .before .before .before .before .before .before .before .before .before .before .drift .ensures) in
+    scans-here (scans-on i (c .before .before .before .before .before .before .before .before .before .before .before .before .before .before .before .before .before .before .width .ensures) (c .before .before .before .before .before .before .before .before .before .before .before .before .before .before .before .before .before .take .ensures) (c .before .before .before .before .before .before .before .before .before .before .before .before .before .before .before .v .given .1) (c .before .before .before .before .before .before .before .turn .ensures) (c .before .before .before .before .before .after .given .1) (c .before .keep .ensures))
 
 pub scan-spec : {M : Type 1} → statement M
 scan-spec =
@@ -147,10 +182,8 @@ scan-spec =
     rows-requires
     begin-requires
     loop-holds
-    pass-requires
+    drift-requires
     add-count
-    loop-less
-    loop-again
     width-requires
     take-requires
     enum-known-v
@@ -158,14 +191,20 @@ scan-spec =
     place-requires
     refuse-requires
     returns
+    ease-requires
+    enum-known-u
+    add-count-2
+    loop-less
+    loop-again
+    enum-told-2
     slice-aggregate-turn
     turn-requires
     enum-known-kind
     place-requires-2
     refuse-requires-2
     returns-2
-    enum-told-2
-    add-t30
+    enum-told-3
+    add-t33
     returns-3
     place-requires-3
     refuse-requires-3
@@ -173,6 +212,6 @@ scan-spec =
     enum-known-after
     slice-aggregate-keep
     keep-requires
-    add-count-2
+    add-count-3
     loop-less-2
     loop-again-2)

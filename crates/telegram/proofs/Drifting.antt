@@ -1,0 +1,79 @@
+-- What the loop goes by that goes past fields unread. Assumes nothing.
+use mathlib.Core.Bool.{Bool, true, false, cond}
+use mathlib.Core.Path.{_≡_, refl, sym, ap, _∙_, subst}
+use Prim.Native.Nat.{ℕ, _+_, _-_, _≤_, _<_}
+use native.Mathlib.Nat.{add-zero}
+use native.Mathlib.Omega.{arith}
+use borrow.Author.Tests.{eq-eqb, ne-eqb}
+use Rattle.bits.specs.Take.{skipAt}
+use Rattle.bits.specs.declared.Cursor.{Cursor}
+use Rattle.bits.specs.declared.Skipped.{Skipped}
+use Rattle.bits.specs.declared.Skipped.the-variants.{To}
+use Rattle.bits.proofs.Fields.{IsPast, skipped}
+use Rattle.format.specs.Table.{act, jump, fieldAt, codeOf}
+use Rattle.laws.proofs.Sources.{width-positive}
+use Rattle.telegram.specs.Machine.{Tidy, Idle, later, Unread, Drifted}
+use Rattle.telegram.specs.Machine.Drifted.{nothing, field}
+use Rattle.telegram.specs.declared.todo.Todo.{Todo}
+use Rattle.telegram.proofs.Idling.{idle-ahead}
+
+-- what need not be read, by whether the telegram is told again
+pub unread-told : {told : Bool} (k : ℕ) → told ≡ true → (codeOf (fieldAt k .sense) ≡ 11 → ⊥) → (codeOf (fieldAt k .sense) ≡ 1 → ⊥)
+    → (codeOf (fieldAt k .sense) ≡ 2 → ⊥) → Unread told k
+unread-told k e a b c = rw e (a, b, c)
+
+pub unread-free : {told : Bool} (k : ℕ) → told ≡ false → codeOf (fieldAt k .sense) < 3 → Unread told k
+unread-free k e h = rw e h
+
+-- where a field begins, from first at the bit start on
+pub record Drifting (n : ℕ) (told : Bool) (first : Todo) (start : ℕ) (t : Todo) (at m : ℕ) : Type 0 where
+  pub drifted : Drifted n told first start t at m
+  pub tidy : Tidy t
+  pub few : m + start ≤ at
+
+pub drifting-first : {n : ℕ} {told : Bool} {t : Todo} {at : ℕ} → Tidy t → Drifting n told t at t at 0
+drifting-first d = record { drifted = nothing; tidy = d; few = omega arith }
+
+module _ {n : ℕ} {told : Bool} {first : Todo} {start : ℕ} {t : Todo} {at m : ℕ} (i : Drifting n told first start t at m)
+    {w : ℕ} (ew : w ≡ fieldAt (t .node) .width) {r : Skipped} (e : r ≡ skipAt n w at) {next : Cursor} (h : r ≡ To next) where
+  gone : IsPast n w at (next .at)
+  gone = skipped n w at next (sym e ∙ h)
+
+  pub more : m + 1 ≤ n
+  more = omega (arith, gone .within, i .few, ew, width-positive (fieldAt (t .node)))
+
+  pub nearer : n - next .at < n - at
+  nearer = omega (arith, gone .within, gone .past, ew, width-positive (fieldAt (t .node)))
+
+  module _ (p : act (t .node) ≡ 2) (q : Unread told (t .node)) where
+    drifts : Idle t → Drifting n told first start (later t) (next .at) (m + 1)
+    drifts idle =
+        let there : next .at ≡ at + fieldAt (t .node) .width = rw (← ew) (gone .past) in
+        let inside : at + fieldAt (t .node) .width ≤ n = rw (← ew) (gone .within) in
+        record {
+          drifted = rw there (field (i .drifted) idle q inside);
+          tidy = idle-ahead t (i .tidy) idle 0 .0 .tidy;
+          few = omega (arith, i .few, there, width-positive (fieldAt (t .node)));
+        }
+
+    -- the one of the two that the next row tells
+    abbrev either : Bool → Todo
+    either b =
+        cond b (record { node = jump (t .node + 1) + 1; left = t .left - 1; outer = t .outer })
+        (record { node = t .node + 1; left = t .left; outer = t .outer })
+
+    pub drifts-next : (act (t .node + 1) ≡ 0 → ⊥) → Drifting n told first start (record { node = t .node + 1; left = t .left; outer = t .outer }) (next .at) (m + 1)
+    drifts-next z =
+        subst (λ (u : Todo). Drifting n told first start u (next .at) (m + 1)) (ap either (ne-eqb (act (t .node + 1)) 0 z))
+        (drifts (record { plain = p; again = λ y. absurd (z y) }))
+
+    pub drifts-again : act (t .node + 1) ≡ 0 → (jump (t .node + 1) ≡ 0 → ⊥) → (t .left ≡ 0 → ⊥)
+        → Drifting n told first start (record { node = jump (t .node + 1) + 1; left = t .left - 1; outer = t .outer }) (next .at) (m + 1)
+    drifts-again z j l =
+        subst (λ (u : Todo). Drifting n told first start u (next .at) (m + 1)) (ap either (eq-eqb (act (t .node + 1)) 0 z))
+        (drifts (record { plain = p; again = λ y. (omega arith, omega arith) }))
+
+-- it goes on, never back
+pub further : {n : ℕ} {told : Bool} {first : Todo} {start : ℕ} {t : Todo} {at m : ℕ} → Drifted n told first start t at m → start ≤ at
+further nothing = omega arith
+further (field d idle q h) = let l = further d in omega arith
