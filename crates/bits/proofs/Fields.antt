@@ -2,14 +2,14 @@
 use mathlib.Core.Path.{_≡_, refl, sym, ap, _∙_, subst}
 use mathlib.Core.List.{List, _++_}
 use mathlib.Core.Bool.{Bool, true, false, cond, _&&_}
-use Prim.Native.Nat.{ℕ, _+_, _-_, _*_, _^_, _≤_, _<_}
+use Prim.Native.Nat.{ℕ, _+_, _-_, _*_, _/_, _%_, _^_, _≤_, _<_}
 use native.Mathlib.Nat.{lt-of-not-le}
 use native.Mathlib.Decide.{decLe}
 use native.Mathlib.Omega.{arith}
 use borrow.Author.Tests.{leb-true, le-leb, lt-leb}
 use lib.Dec.{leb, ltb}
 use lib.ListN.{length, take, drop, length-append, length-drop}
-use lib.Seq.{take-at, drop-at, length-take-le}
+use lib.Seq.{take-at, take-add, take-take, drop-at, drop-drop, length-take-le}
 use Rattle.bits.specs.Bits.{digits, valueOf, bitsOf, bytesFor, bytesOf, Below}
 use Rattle.bits.specs.Take.{inside, fieldBits, takenIf, takeAt, skipAt}
 use Rattle.bits.specs.Put.{over, putAt, Put}
@@ -17,7 +17,7 @@ use Rattle.bits.specs.declared.Cursor.{Cursor}
 use Rattle.bits.specs.declared.Taken.the-variants.{Field, Short}
 use Rattle.bits.specs.declared.Skipped.{Skipped}
 use Rattle.bits.specs.declared.Skipped.the-variants.{To, Lacking}
-use Rattle.bits.proofs.Digits.{length-digits, below-digits, valueOf-lt, valueOf-digits}
+use Rattle.bits.proofs.Digits.{length-digits, below-digits, valueOf-lt, valueOf-digits, valueOf-part}
 use Rattle.bits.proofs.Bytes.{below-append, below-take, below-drop, below-bitsOf, length-bitsOf, bytesOf-bitsOf, bitsOf-bytesOf-whole}
 
 -- ---- the bits of a field
@@ -33,6 +33,23 @@ pub field-lt : (s : List ℕ) (w at : ℕ) → at + w ≤ 8 * length s → value
 field-lt s w at h =
     subst (λ (n : ℕ). valueOf (fieldBits s w at) < 2 ^ n) (length-fieldBits s w at h)
     (valueOf-lt (fieldBits s w at) (below-fieldBits s w at))
+
+-- what is cut out of the first bits of a list is cut out of the list
+take-in : (l : List ℕ) (o w low : ℕ) → o ≤ length l → take w (drop o (take (o + (w + low)) l)) ≡ take w (drop o l)
+take-in l o w low h =
+    rw (take-add o (w + low) l, drop-at (take o l) (take (w + low) (drop o l)) o (length-take-le o l h))
+    (take-take w (w + low) (drop o l) (omega arith))
+
+-- a field of w bits inside a longer one, o bits from its highest and low bits from its lowest
+pub field-in-field : (s : List ℕ) (at o w low : ℕ) → at + (o + (w + low)) ≤ 8 * length s
+    → valueOf (fieldBits s w (at + o)) ≡ valueOf (fieldBits s (o + (w + low)) at) / 2 ^ low % 2 ^ w
+field-in-field s at o w low h =
+    ap valueOf same
+    ∙ valueOf-part (fieldBits s (o + (w + low)) at) o w low (below-fieldBits s (o + (w + low)) at)
+    (length-fieldBits s (o + (w + low)) at h)
+  where
+    same : fieldBits s w (at + o) ≡ take w (drop o (fieldBits s (o + (w + low)) at))
+    same = rw (← (drop-drop o at (bitsOf s))) (sym (take-in (drop at (bitsOf s)) o w low (rw (length-drop, length-bitsOf) (omega arith))))
 
 -- ---- taking
 
@@ -105,6 +122,15 @@ module _ (s : List ℕ) (n width at : ℕ) where
   pub take-roomless : width ≤ 64 → at + width ≤ n → 8 * length s < n → takeAt s n width at ≡ Short
   unfolding takeAt
   take-roomless w h l = simp (le-leb width 64 w, le-leb (at + width) n h, lt-leb n (8 * length s) l)
+
+-- a part of a field that was taken, o bits from its first and low bits from its last
+pub take-part : (s : List ℕ) (n o w low at v x next : ℕ) → IsField s n (o + (w + low)) at v next → w ≤ 64 → v / 2 ^ low % 2 ^ w ≡ x
+    → takeAt s n w (at + o) ≡ Field x (record { at = at + o + w })
+take-part s n o w low at v x next f l e =
+    let g = f .within in
+    let b = f .room in
+    take-whole s n w (at + o) l (omega arith) b
+    ∙ ap (λ (y : ℕ). Field y (record { at = at + o + w })) (field-in-field s at o w low (omega arith) ∙ rw (← (f .value)) e)
 
 -- ---- going past bits
 

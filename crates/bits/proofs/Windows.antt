@@ -5,33 +5,16 @@ use Prim.Native.Nat.{ℕ, suc, _+_, _-_, _*_, _/_, _%_, _^_, _≤_, _<_}
 use native.Mathlib.Nat.{mod-eq-of-lt, div-one, add-zero, add-mul, mul-assoc}
 use native.Mathlib.Omega.{arith}
 use lib.ListN.{length, take, drop, getD, set, length-drop, take-append-drop}
-use lib.Seq.{take-at, drop-at, drop-drop, take-add, take-take, length-take-le, sets-eq}
+use lib.Seq.{take-at, drop-at, drop-drop, length-take-le, sets-eq}
 use lib.Pow.{pow-add, shl-lt, shl-exact}
 use lib.Bits.{bitOr, or-shifted}
 use Rattle.bits.specs.Bits.{digits, valueOf, bitsOf, Below}
 use Rattle.bits.specs.Take.{fieldBits}
 use Rattle.bits.specs.Put.{over}
-use Rattle.bits.proofs.Digits.{digits-split, digits-low, digits-valueOf-at, valueOf-part}
+use Rattle.bits.proofs.Digits.{digits-split, digits-low, digits-valueOf-at}
 use Rattle.bits.proofs.Bytes.{below-take, below-drop, below-bitsOf, length-bitsOf, bitsOf-append, bitsOf-cons}
-use Rattle.bits.proofs.Fields.{length-fieldBits, below-fieldBits}
+use Rattle.bits.proofs.Fields.{field-in-field}
 use Rattle.bits.proofs.Loops.{take-step, spliced}
-
--- what is cut out of the first bits of a list is cut out of the list
-take-in : (l : List ℕ) (o w low : ℕ) → o ≤ length l → take w (drop o (take (o + (w + low)) l)) ≡ take w (drop o l)
-take-in l o w low h =
-    rw (take-add o (w + low) l, drop-at (take o l) (take (w + low) (drop o l)) o (length-take-le o l h))
-    (take-take w (w + low) (drop o l) (omega arith))
-
--- a field of w bits inside a longer one, o bits from its highest and low bits from its lowest
-pub field-in-field : (s : List ℕ) (at o w low : ℕ) → at + (o + (w + low)) ≤ 8 * length s
-    → valueOf (fieldBits s w (at + o)) ≡ valueOf (fieldBits s (o + (w + low)) at) / 2 ^ low % 2 ^ w
-field-in-field s at o w low h =
-    ap valueOf same
-    ∙ valueOf-part (fieldBits s (o + (w + low)) at) o w low (below-fieldBits s (o + (w + low)) at)
-    (length-fieldBits s (o + (w + low)) at h)
-  where
-    same : fieldBits s w (at + o) ≡ take w (drop o (fieldBits s (o + (w + low)) at))
-    same = rw (← (drop-drop o at (bitsOf s))) (sym (take-in (drop at (bitsOf s)) o w low (rw (length-drop, length-bitsOf) (omega arith))))
 
 -- ---- four bytes as one number
 

@@ -17,23 +17,23 @@ use Rattle.format.specs.Table.{Row, row, rows, rowAt, act, fieldAt, jump
 
 -- ---- a test at each element of a list
 
-abbrev imp : Bool → Bool → Bool
+abbrev pub imp : Bool → Bool → Bool
 imp true b = b
 imp false b = true
 
-and-left : (a b : Bool) → T (a && b) → T a
+pub and-left : (a b : Bool) → T (a && b) → T a
 and-left true b t = tt
 and-left false b t = t
 
-and-right : (a b : Bool) → T (a && b) → T b
+pub and-right : (a b : Bool) → T (a && b) → T b
 and-right true b t = t
 and-right false b t = absurd t
 
-imp-use : (a b : Bool) → T (imp a b) → a ≡ true → T b
+pub imp-use : (a b : Bool) → T (imp a b) → a ≡ true → T b
 imp-use true b t e = t
 imp-use false b t e = absurd (subst T (sym e) tt)
 
-abbrev every : {A : Type 0} → (ℕ → A → Bool) → ℕ → List A → Bool
+abbrev pub every : {A : Type 0} → (ℕ → A → Bool) → ℕ → List A → Bool
 every f i [] = true
 every f i (x ∷ xs) = f i x && every f (suc i) xs
 
@@ -48,7 +48,7 @@ module _ {A : Type 0} (f : ℕ → A → Bool) (d : A) where
   each : (xs : List A) → T (every f 0 xs) → (k : ℕ) → k < length xs → T (f k (getD xs k d))
   each xs t k h = subst (λ (m : ℕ). T (f m (getD xs k d))) (zero-add k) (from xs 0 t k h)
 
-row-law : (f : ℕ → Row → Bool) → T (every f 0 rows) → (k : ℕ) → k < 213 → T (f k (rowAt k))
+pub row-law : (f : ℕ → Row → Bool) → T (every f 0 rows) → (k : ℕ) → k < 213 → T (f k (rowAt k))
 unfolding rowAt
 row-law f t k h = each f (row 0 NID-PACKET 0 0) rows t k h
 
@@ -375,7 +375,7 @@ code-width c w t k l e =
     eqb→eq _ _
     (imp-use (eqb (codeOf (fieldAt k .sense)) c) (eqb (fieldAt k .width) w) (row-law _ t k l) (eq-eqb (codeOf (fieldAt k .sense)) c e))
 
--- NID_PACKET has 8 bits and Q_DIR has 2
+-- NID_PACKET has 8 bits, Q_DIR has 2 and L_PACKET has 13
 pub packet-width : (k : ℕ) → k < 213 → codeOf (fieldAt k .sense) ≡ 7 → fieldAt k .width ≡ 8
 unfolding rows
 packet-width = code-width 7 8 tt
@@ -383,6 +383,10 @@ packet-width = code-width 7 8 tt
 pub direction-width : (k : ℕ) → k < 213 → codeOf (fieldAt k .sense) ≡ 9 → fieldAt k .width ≡ 2
 unfolding rows
 direction-width = code-width 9 2 tt
+
+pub size-width : (k : ℕ) → k < 213 → codeOf (fieldAt k .sense) ≡ 3 → fieldAt k .width ≡ 13
+unfolding rows
+size-width = code-width 3 13 tt
 
 -- a distance, of code 1 or 2, has at most 20 bits, and a text length 15
 pub distance-narrow : (k : ℕ) → k < 213 → 0 < codeOf (fieldAt k .sense) → codeOf (fieldAt k .sense) < 3 → fieldAt k .width ≤ 20

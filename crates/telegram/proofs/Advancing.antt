@@ -9,7 +9,7 @@ use Rattle.format.specs.Rules.{next, orEnd}
 use Rattle.format.specs.Table.{act, jump, up, node, etcsRow, ctcsRow}
 use Rattle.format.specs.Kinds.{etcsStart, ctcsStart}
 use Rattle.format.specs.declared.packets.Start.{Start}
-use Rattle.format.proofs.Rows.{three-up, end-jump, up-in, up-repeats, group-starts, node-end, rootAt, etcs-root, ctcs-root, etcs-in, ctcs-in, etcs-up, ctcs-up, none-act}
+use Rattle.format.proofs.Rows.{three-up, end-jump, up-in, up-repeats, group-starts, node-end, rootAt, etcs-root, ctcs-root, etcs-in, ctcs-in, etcs-up, ctcs-up, none-act, none-up}
 use Rattle.telegram.specs.Machine.{todoOf, Tidy, Moved, Turned, Advanced}
 use Rattle.telegram.specs.declared.todo.Todo.{Todo}
 use Rattle.telegram.specs.declared.todo.Ahead.the-variants.{On, Mark}
@@ -114,6 +114,12 @@ module _ (t : Todo) (v : ℕ) (d : Tidy t) where
     -- before a row that is no end: that row
     pub advances-next : (act (t .node + 1) ≡ 0 → ⊥) → Advanced t v (On nextRow)
     advances-next n = advances-moved nextRow (omega arith) passed n
+
+    -- before a packet's end: that end
+    pub advances-end : act (t .node + 1) ≡ 0 → up (t .node + 1) ≡ 0 → Advanced t v (On nextRow)
+    advances-end z u =
+        let s : Turned nextRow nextRow = record { inside = passed .inside; items = refl; was = λ e. e; out = λ e. rw (u, none-up) } in
+        advances-on nextRow nextRow nextRow (omega arith) passed s s
 
     -- before the end of a group that comes again: its first row, which is a field
     module _ (z : act (t .node + 1) ≡ 0) (p : 0 < jump (t .node + 1)) (l : 0 < t .left) where

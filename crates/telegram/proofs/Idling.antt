@@ -16,6 +16,7 @@ use Rattle.format.specs.Table.{act, jump, fieldAt, codeOf}
 use Rattle.telegram.specs.Machine.{contextOf, levelOf, ruleAt, Tidy, Idle, later, Slight, reached, Advanced, Noted, Sound, Judged, Entered}
 use Rattle.telegram.specs.Seen.{Passed, Noticed}
 use Rattle.telegram.specs.declared.state.State.{State}
+use Rattle.telegram.specs.declared.machine.Outcome.{Outcome}
 use Rattle.telegram.specs.declared.machine.Outcome.the-variants.{Go}
 use Rattle.telegram.specs.declared.todo.Todo.{Todo}
 use Rattle.telegram.specs.declared.todo.Ahead.the-variants.{On}
@@ -45,6 +46,15 @@ module _ (t : Todo) (d : Tidy t) (i : Idle t) (v : ℕ) where
 
   pub idle-ahead : Follows (later t)
   idle-ahead = by-test (eqb (act k) 0) refl
+
+-- a value that keeps its rule, where no packet's Q_DIR is due: what is noted of it, and where it leads
+module _ (s : State) (d : Sound s) (v : ℕ) (j : Judged s v false Fine) (nine : codeOf (fieldAt (s .todo .node) .sense) ≡ 9 → ⊥)
+    (seen : List ℕ) (met : ℕ) where
+  pub fine-passed : {r : Outcome} → Entered s v r → Passed seen met s v r
+  fine-passed {r} e = passes seen met s v false false r (directs-not s nine) (λ h. absurd-flag false h refl) (stepped-goes s v false d r j e)
+
+  pub fine-noticed : met < length seen → v < 2 ^ fieldAt (s .todo .node) .width → Noticed seen met s v met seen
+  fine-noticed h l = notices seen met s v false met seen (directs-not s nine) h l (held-none seen met false s v refl)
 
 -- whatever a field holds that may hold anything
 pub slight-free : {k v : ℕ} → codeOf (fieldAt k .sense) < 3 → Slight k v
@@ -86,10 +96,7 @@ module _ (s : State) (d : Sound s) (v : ℕ) (q : Slight (s .todo .node) v) {u :
 
   module _ (seen : List ℕ) (met : ℕ) where
     pub slight-passed : Passed seen met s v (Go after)
-    slight-passed =
-        passes seen met s v false false (Go after) (directs-not s (kept-not 9 (omega arith) (omega arith))) (λ e. absurd-flag false e refl)
-        (stepped-goes s v false d (Go after) judged enters)
+    slight-passed = fine-passed s d v judged (kept-not 9 (omega arith) (omega arith)) seen met enters
 
     pub slight-noticed : met < length seen → v < 2 ^ fieldAt (s .todo .node) .width → Noticed seen met s v met seen
-    slight-noticed h l =
-        notices seen met s v false met seen (directs-not s (kept-not 9 (omega arith) (omega arith))) h l (held-none seen met false s v refl)
+    slight-noticed = fine-noticed s d v judged (kept-not 9 (omega arith) (omega arith)) seen met

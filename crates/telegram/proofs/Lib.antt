@@ -13,6 +13,8 @@ pub mod Idling
 pub mod Drifting
 pub mod Driving
 pub mod Scanning
+pub mod Fronting
+pub mod Heading
 pub mod Measuring
 pub mod Runs
 pub mod Taking

@@ -12,17 +12,21 @@ use Rattle.telegram.specs.declared.state.Level.the-variants.{Header, Pac
 use Rattle.telegram.specs.declared.state.State.{State}
 
 -- the state with another Q_DIR, L_PACKET, inner L_PACKET or N_PIG
-abbrev withDir : State → ℕ → State
+abbrev pub withDir : State → ℕ → State
 withDir s v = record { at = s .at; todo = s .todo; level = s .level; start = s .start; id = s .id; dir = v; long = s .long; userstart = s .userstart; userlong = s .userlong; pig = s .pig }
 
-abbrev withLong : State → ℕ → State
+abbrev pub withLong : State → ℕ → State
 withLong s v = record { at = s .at; todo = s .todo; level = s .level; start = s .start; id = s .id; dir = s .dir; long = v; userstart = s .userstart; userlong = s .userlong; pig = s .pig }
 
 abbrev withUserLong : State → ℕ → State
 withUserLong s v = record { at = s .at; todo = s .todo; level = s .level; start = s .start; id = s .id; dir = s .dir; long = s .long; userstart = s .userstart; userlong = v; pig = s .pig }
 
-abbrev withPig : State → ℕ → State
+abbrev pub withPig : State → ℕ → State
 withPig s v = record { at = s .at; todo = s .todo; level = s .level; start = s .start; id = s .id; dir = s .dir; long = s .long; userstart = s .userstart; userlong = s .userlong; pig = v }
+
+-- the state in the packet that an NID_PACKET begins
+abbrev pub inPacket : State → ℕ → State
+inPacket s v = record { at = s .at; todo = s .todo; level = Packet; start = s .start; id = v; dir = 0; long = 0; userstart = 0; userlong = 0; pig = s .pig }
 
 module _ (s : State) (v : ℕ) where
   -- Q_DIR
@@ -57,7 +61,7 @@ module _ (s : State) (v : ℕ) where
   pig-any = record { right = λ a b l. refl; here = refl; first = refl; second = λ h. h; small = λ h f. h }
 
   -- NID_PACKET and NID_XUSER
-  pub packet-opens : Noted s 7 v (record { at = s .at; todo = s .todo; level = Packet; start = s .start; id = v; dir = 0; long = 0; userstart = 0; userlong = 0; pig = s .pig })
+  pub packet-opens : Noted s 7 v (inPacket s v)
   unfolding noted senseOf
   packet-opens = record { right = λ a b l. refl; here = refl; first = refl; second = λ h. omega arith; small = λ h f. f refl }
 

@@ -2,6 +2,7 @@
 pub mod Reader
 pub mod Machine
 pub mod Seen
+pub mod Heads
 pub mod Filling
 pub mod Writer
 pub mod Along

@@ -9,7 +9,7 @@ ghost use Rattle.telegram.specs.Seen.{packetsIn, Repeating, Repeated, Ke
 use crate::state::State;
 
 // Whether a packet with this NID_PACKET and Q_DIR collides with one of the first n of seen.
-fn collides(seen: &[u16], n: usize, id: u64, dir: u64) -> bool
+pub(crate) fn collides(seen: &[u16], n: usize, id: u64, dir: u64) -> bool
     requires { do ⌜ (n ≤ (← ⟦seen.len()⟧)) × (dir < 4) × (id < 256) ⌝ }
     ensures { λ r. ⌜ r ≡ (not (eqb id 44) && among id dir (packetsIn (take n (now (seen .entry))))) ⌝ }
 {

@@ -2,6 +2,7 @@
 mod answer;
 mod driver;
 mod earlier;
+mod head;
 mod machine;
 mod normaliser;
 mod reader;

@@ -15,6 +15,10 @@ use crate::driver::drift;
 use crate::driver::ease;
 use crate::driver::keep;
 use crate::driver::turn;
+use crate::earlier::note;
+use crate::head::Begun;
+use crate::head::head;
+use crate::head::header;
 use crate::machine::Outcome;
 use crate::rows::width;
 use crate::state::begin;
@@ -94,6 +98,13 @@ fn scan(s: &[u8], n: usize) -> Answer
     let mut met: usize = 0;
     let mut st = begin();
     let mut count: usize = 0;
+    match header(s, n) {
+        Begun::To(after) => {
+            st = after;
+            count = 10;
+        }
+        Begun::Not => {}
+    }
     loop {
         let g = drift(&rows, n, false, st.todo, Cursor { at: st.at });
         let t = g.todo;
@@ -101,6 +112,17 @@ fn scan(s: &[u8], n: usize) -> Answer
         st.at = c.at;
         st.todo = t;
         count += g.fields;
+        if t.node == 0 {
+            match head(&rows, s, n, &seen, met, st) {
+                Begun::To(after) => {
+                    met = note(&mut seen, met, true, after, after.dir);
+                    st = after;
+                    count += 3;
+                    continue;
+                }
+                Begun::Not => {}
+            }
+        }
         let Taken::Field(v, next) = c.take(s, n, width(&rows, t.node)) else {
             return refuse(Kind::Ended, place(Kind::Ended, st, 0));
         };

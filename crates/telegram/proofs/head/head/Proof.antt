@@ -1,0 +1,103 @@
+-- `telegram::head::head` meets its contract. Assumes nothing.
+use mathlib.Core.Path.{_≡_, sym, ap, _∙_, subst}
+use Prim.Native.Nat.{ℕ, _+_, _<_}
+use native.Mathlib.Numerals.{add-one}
+use native.Mathlib.Omega.{arith}
+use borrow.Author.Needs.{needs}
+use denote.Ref.{now}
+use Rattle.bits.specs.declared.Cursor.{Cursor}
+use Rattle.bits.specs.declared.Taken.the-variants.{Field}
+use Rattle.bits.proofs.Fields.{taken}
+use Rattle.format.proofs.Heads.{head-rows}
+use Rattle.format.proofs.Rows.{etcs-in}
+use Rattle.telegram.proofs.Heading.{head-inside}
+use Rattle.telegram.proofs.Senses.{etcs-row}
+use Rattle.telegram.proofs.head.head.Statement.{statement}
+use Rattle.telegram.proofs.head.head.Tie as tie
+
+take-requires : tie.Need-take-requires
+take-requires c κs = search needs
+
+enum-known-a : tie.Need-enum-known-a
+enum-known-a c = search needs
+
+enum-told : tie.Need-enum-told
+enum-told c = search needs
+
+returns : tie.Need-returns
+returns c = search needs
+
+etcs-requires : tie.Need-etcs-requires
+etcs-requires c κs = search needs
+
+-- the row that is told is the packet's, and is in the table
+in-table : (c : tie.After-etcs) → c .etcs .result .row < 213
+in-table c = subst (λ (k : ℕ). k < 213) (etcs-row _ (c .etcs .result) (c .etcs .ensures)) (etcs-in _)
+
+code-requires : tie.Need-code-requires
+code-requires c κs = record { table = c .before .before .before .before .before .before .before .pre .table; inside = in-table c }
+
+returns-2 : tie.Need-returns-2
+returns-2 c = search needs
+
+-- it is a Q_DIR's
+directs : (c : tie.Else1) → c .before .before .etcs .result .row + 2 < 213
+directs c = head-inside (c .before .before .etcs .result .row) (in-table (c .before .before)) (sym (c .before .code .ensures) ∙ c .if1 .left)
+
+add-act : tie.Need-add-act
+add-act c = omega (arith, directs c)
+
+act-requires : tie.Need-act-requires
+act-requires c κs = record { table = c .before .before .before .before .before .before .before .before .before .pre .table; inside = directs c }
+
+returns-3 : tie.Need-returns-3
+returns-3 c = search needs
+
+returns-4 : tie.Need-returns-4
+returns-4 c = search needs
+
+collides-requires : tie.Need-collides-requires
+collides-requires c κs =
+    let f = taken _ _ _ _ _ _ (sym (c .before .before .before .before .before .before .before .before .before .take .ensures) ∙ c .before .before .before .before .before .before .before .a .given .1) in
+    (c .before .before .before .before .before .before .before .before .before .before .before .before .pre .inside, omega arith, omega (arith, f .small))
+
+returns-5 : tie.Need-returns-5
+returns-5 c = search needs
+
+add-t19 : tie.Need-add-t19
+add-t19 c = omega (arith, directs (c .before .before .before .before .before))
+
+returns-6 : tie.Need-returns-6
+returns-6 c =
+    let f = taken _ _ _ _ _ _ (sym (c .before .before .before .before .before .before .before .before .before .before .before .take .ensures) ∙ c .before .before .before .before .before .before .before .before .before .a .given .1) in
+    let k = etcs-row _ (c .before .before .before .before .before .before .before .etcs .result) (c .before .before .before .before .before .before .before .etcs .ensures) in
+    let d = c .before .before .if3 .left in
+    record {
+      bits = c .before .before .before .before .before .before .before .before .before .a .given .0 .0;
+      field = sym (c .before .before .before .before .before .before .before .before .before .before .before .take .ensures) ∙ c .before .before .before .before .before .before .before .before .before .a .given .1 ∙ ap (λ (x : ℕ). Field (c .before .before .before .before .before .before .before .before .before .a .given .0 .0) (record { at = x })) (f .past);
+      known = rw k (sym (c .before .before .before .before .before .before .code .ensures) ∙ c .before .before .before .before .before .if1 .left);
+      more = λ e. c .before .before .before .if2 .left (c .before .before .before .before .act .ensures ∙ rw (← k) e);
+      allowed = omega arith;
+      alone = sym (c .if4 .left) ∙ c .before .collides .ensures;
+      state = rw (k, ← (f .past));
+    }
+
+pub head-spec : {M : Type 1} → statement M
+head-spec =
+    tie.close
+    (tie.spec
+    take-requires
+    enum-known-a
+    enum-told
+    returns
+    etcs-requires
+    code-requires
+    returns-2
+    add-act
+    act-requires
+    returns-3
+    returns-4
+    collides-requires
+    returns-5
+    add-t19
+    returns-6)

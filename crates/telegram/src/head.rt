@@ -1,0 +1,113 @@
+// What stands in front, taken as one field: the header's first 25 bits, with all of it that a rule reads, and a packet's NID_PACKET, Q_DIR and
+// L_PACKET, which are 23.
+ghost use Rattle.telegram.specs.Heads.{Started, Heading, Headed};
+use crate::earlier::collides;
+use crate::rows::DIRECTION;
+use crate::rows::END;
+use crate::rows::act;
+use crate::rows::code;
+use crate::state::Level;
+use crate::state::State;
+use crate::todo::Todo;
+use bits::Cursor;
+use bits::Skipped;
+use bits::Taken;
+use format::packets;
+
+// Where what is taken leads, if it keeps every rule; and else, that its fields have to be looked at one by one.
+pub enum Begun {
+    To(State),
+    Not,
+}
+
+// The header. Its first three fields are 1, 16 and 0, which is 288 in nine bits.
+pub(crate) fn header(s: &[u8], n: usize) -> Begun
+    ensures { λ r. ⌜ Started (now (s .entry)) n r ⌝ }
+{
+    let c = Cursor { at: 0 };
+    let Taken::Field(a, read) = c.take(s, n, 25) else {
+        return Begun::Not;
+    };
+    let Skipped::To(end) = read.skip(n, 25) else {
+        return Begun::Not;
+    };
+    let pig = a / 8192 % 8;
+    if a / 65536 != 288 {
+        return Begun::Not;
+    }
+    if a / 1024 % 8 < pig {
+        return Begun::Not;
+    }
+    if a / 256 % 4 == 3 {
+        return Begun::Not;
+    }
+    let todo = Todo {
+        node: 0,
+        left: 0,
+        outer: 0,
+    };
+    Begun::To(State {
+        at: end.at,
+        todo,
+        level: Level::Packet,
+        start: end.at,
+        id: 0,
+        dir: 0,
+        long: 0,
+        userstart: 0,
+        userlong: 0,
+        pig,
+    })
+}
+
+// The head of the packet that begins here, after the packets of the first met of seen, if it keeps every rule and a field follows it. Row 0,
+// which stands for no packet, has no Q_DIR.
+pub(crate) fn head(
+    rows: &[u32; 213],
+    s: &[u8],
+    n: usize,
+    seen: &[u16],
+    met: usize,
+    st: State,
+) -> Begun
+    requires { ⌜ Heading (now rows) (now seen) n met st ⌝ }
+    ensures { λ r. ⌜ Headed (now (s .entry)) n (now (seen .entry)) met st r ⌝ }
+{
+    let c = Cursor { at: st.at };
+    let Taken::Field(a, next) = c.take(s, n, 23) else {
+        return Begun::Not;
+    };
+    let id = a / 32768;
+    let dir = a / 8192 % 4;
+    let p = packets::etcs(id);
+    let row = p.row;
+    if code(rows, row) != DIRECTION {
+        return Begun::Not;
+    }
+    if act(rows, row + 2) == END {
+        return Begun::Not;
+    }
+    if dir == 3 {
+        return Begun::Not;
+    }
+    if collides(seen, met, id, dir) {
+        return Begun::Not;
+    }
+    let todo = Todo {
+        node: row + 2,
+        left: 0,
+        outer: 0,
+    };
+    Begun::To(State {
+        at: next.at,
+        todo,
+        level: Level::Packet,
+        start: st.start,
+        id,
+        dir,
+        long: a % 8192,
+        userstart: 0,
+        userlong: 0,
+        pig: st.pig,
+    })
+}
