@@ -98,12 +98,9 @@ fn scan(s: &[u8], n: usize) -> Answer
     let mut met: usize = 0;
     let mut st = begin();
     let mut count: usize = 0;
-    match header(s, n) {
-        Begun::To(after) => {
-            st = after;
-            count = 10;
-        }
-        Begun::Not => {}
+    if let Begun::To(after) = header(s, n) {
+        st = after;
+        count = 10;
     }
     loop {
         let g = drift(&rows, n, false, st.todo, Cursor { at: st.at });
@@ -113,27 +110,21 @@ fn scan(s: &[u8], n: usize) -> Answer
         st.todo = t;
         count += g.fields;
         if t.node == 0 {
-            match head(&rows, s, n, &seen, met, st) {
-                Begun::To(after) => {
-                    met = note(&mut seen, met, true, after, after.dir);
-                    st = after;
-                    count += 3;
-                    continue;
-                }
-                Begun::Not => {}
+            if let Begun::To(after) = head(&rows, s, n, &seen, met, st) {
+                met = note(&mut seen, met, true, after, after.dir);
+                st = after;
+                count += 3;
+                continue;
             }
         }
         let Taken::Field(v, next) = c.take(s, n, width(&rows, t.node)) else {
             return refuse(Kind::Ended, place(Kind::Ended, st, 0));
         };
-        match ease(&rows, t, v) {
-            Easy::To(u) => {
-                st.at = next.at;
-                st.todo = u;
-                count += 1;
-                continue;
-            }
-            Easy::Not => {}
+        if let Easy::To(u) = ease(&rows, t, v) {
+            st.at = next.at;
+            st.todo = u;
+            count += 1;
+            continue;
         }
         match turn(&rows, &seen, met, st, v) {
             Outcome::Breaks(kind) => {
