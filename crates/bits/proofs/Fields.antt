@@ -15,7 +15,6 @@ use Rattle.bits.specs.Take.{inside, fieldBits, takenIf, takeAt, skipAt}
 use Rattle.bits.specs.Put.{over, putAt, Put}
 use Rattle.bits.specs.declared.Cursor.{Cursor}
 use Rattle.bits.specs.declared.Taken.the-variants.{Field, Short}
-use Rattle.bits.specs.declared.Skipped.{Skipped}
 use Rattle.bits.specs.declared.Skipped.the-variants.{To, Lacking}
 use Rattle.bits.proofs.Digits.{length-digits, below-digits, valueOf-lt, valueOf-digits, valueOf-part}
 use Rattle.bits.proofs.Bytes.{below-append, below-take, below-drop, below-bitsOf, length-bitsOf, bytesOf-bitsOf, bitsOf-bytesOf-whole}

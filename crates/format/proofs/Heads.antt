@@ -3,7 +3,7 @@ use mathlib.Core.Bool.{Bool, _&&_}
 use mathlib.Core.Path.{_≡_, refl}
 use Prim.Native.Nat.{ℕ, _+_, _<_}
 use borrow.Author.Tests.{eq-eqb}
-use lib.Dec.{T, eqb, eqb→eq}
+use lib.Dec.{eqb, eqb→eq}
 use Rattle.format.specs.Table.{Row, rows, rowAt, act, fieldAt, codeOf}
 use Rattle.format.proofs.Rows.{imp, and-left, and-right, imp-use, row-law}
 

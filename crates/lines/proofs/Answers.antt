@@ -26,6 +26,15 @@ none-more block a e h g i l m n = by (decLe e i)
     by (yes k) = let same : i ≡ e = omega arith in g (ap (λ (j : ℕ). getD block j 0) (sym same) ∙ n)
     by (no k) = h i l (lt-of-not-le k) n
 
+-- nor in two pieces one after the other
+pub none-further : (block : List ℕ) (a e f : ℕ) → ((i : ℕ) → a ≤ i → i < e → getD block i 0 ≡ 10 → ⊥)
+    → ((i : ℕ) → e ≤ i → i < f → getD block i 0 ≡ 10 → ⊥) → (i : ℕ) → a ≤ i → i < f → getD block i 0 ≡ 10 → ⊥
+none-further block a e f h g i l m n = by (decLe e i)
+  where
+    by : Dec (e ≤ i) → ⊥
+    by (yes k) = g i k m n
+    by (no k) = h i l (lt-of-not-le k) n
+
 -- ---- the answer, by what packing finds
 
 module _ (line before : List ℕ) (answered : Packed) (after : List ℕ) (h : Pack line before answered after) where

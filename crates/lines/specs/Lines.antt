@@ -29,6 +29,11 @@ pub record Kept (chars : ℕ) (before part : List ℕ) (chars' : ℕ) (after : L
   pub few : chars' ≤ most
   pub text : take chars' after ≡ take most (take chars before ++ part)
 
+-- no newline lies from a to e, where there are so many characters
+pub record FreeTo (block : List ℕ) (a e : ℕ) : Type 0 where
+  pub within : e ≤ length block
+  pub none : (i : ℕ) → a ≤ i → i < e → getD block i 0 ≡ 10 → ⊥
+
 -- the line that goes on at a ends at e: no newline lies between, and one lies at e unless the block ends there
 pub record EndsAt (block : List ℕ) (a e : ℕ) : Type 0 where
   pub behind : a ≤ e

@@ -6,7 +6,7 @@ ghost use mathlib.Core.Path.{_≡_};
 ghost use mathlib.Core.Bool.{true};
 ghost use Prim.Native.Nat.{_+_, _<_, _≤_, min};
 ghost use lib.ListN.{length};
-ghost use Rattle.lines.specs.Lines.{Room, Kept, EndsAt};
+ghost use Rattle.lines.specs.Lines.{Room, Kept, EndsAt, FreeTo};
 ghost use Rattle.lines.specs.Text.{responseTo, Appended};
 
 mod line;
@@ -106,19 +106,43 @@ fn over(block: &[u8], line: &mut [u8], out: &mut [u8], held: Held) -> Held
     h
 }
 
-// Where the line that goes on at a ends: at the first newline from there on, or at the end of the block.
+// Where the line that goes on at a ends: at the first newline from there on, or at the end of the block. Sixteen characters at a time
+// are told free of one.
 fn line_end(block: &[u8], a: usize) -> usize
     requires { ⌜ a ≤ length (now block) ⌝ }
     ensures { λ r. ⌜ EndsAt (now (block .entry)) a r ⌝ }
 {
     let mut e = a;
     while e < block.len() {
+        if free(block, e) {
+            e += 16;
+            continue;
+        }
         if block[e] == b'\n' {
             return e;
         }
         e += 1;
     }
     e
+}
+
+// Whether there are sixteen characters from at on, and none of them is a newline.
+fn free(block: &[u8], at: usize) -> bool
+    requires { ⌜ at ≤ length (now block) ⌝ }
+    ensures { λ r. ⌜ (r ≡ true → FreeTo (now (block .entry)) at (at + 16)) ⌝ }
+{
+    if block.len() - at < 16 {
+        return false;
+    }
+    let mut none = true;
+    let mut j = 0;
+    while j < 16 {
+        if block[at + j] == b'\n' {
+            none = false;
+        }
+        j += 1;
+    }
+    none
 }
 
 // Puts a further part of the line in hand behind what is kept of it, up to 831 characters.

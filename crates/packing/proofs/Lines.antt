@@ -26,17 +26,10 @@ module _ (line : List ℕ) (i : ℕ) (h : i < length line) where
       ap binary (drop-cons line i 0 h)
       ∙ ap (λ (k : ℕ). isBit (getD line i 0) && binary (drop k line)) (sym (add-one i))
 
-  -- a character below 0, one above 1, and one that is neither
-  pub binary-low : getD line i 0 < 48 → binary (drop i line) ≡ false
-  binary-low l = binary-at ∙ simp (lt-leb 48 (getD line i 0) l)
-
-  pub binary-high : 49 < getD line i 0 → binary (drop i line) ≡ false
-  binary-high l =
-      let g : 48 ≤ getD line i 0 = omega arith in
-      binary-at ∙ simp (le-leb 48 (getD line i 0) g, lt-leb (getD line i 0) 49 l)
-
-  pub binary-goes : 48 ≤ getD line i 0 → getD line i 0 ≤ 49 → binary (drop i line) ≡ binary (drop (i + 1) line)
-  binary-goes g l = binary-at ∙ simp (le-leb 48 (getD line i 0) g, le-leb (getD line i 0) 49 l)
+  -- the characters before are of 0 and 1, and so is what is left of the line: with one character more before
+  pub binary-more : (before after : Bool) → after ≡ (before && isBit (getD line i 0)) → (before && binary (drop i line)) ≡ (after && binary (drop (i + 1) line))
+  binary-more true after e = rw e binary-at
+  binary-more false after e = rw e
 
 -- ---- the bits that they write
 

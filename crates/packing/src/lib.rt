@@ -3,7 +3,7 @@ ghost use mathlib.Core.Path.{_≡_};
 ghost use Prim.Native.Nat.{_+_, _*_, _≤_};
 ghost use lib.ListN.{length, drop, getD};
 ghost use Rattle.bits.specs.Bits.{valueOf, filled, bytesFor};
-ghost use Rattle.packing.specs.Packing.{binary, bitOf, bitsIn, bytesOver, Pack};
+ghost use Rattle.packing.specs.Packing.{isBit, binary, bitOf, bitsIn, bytesOver, Pack};
 
 // What packing a line finds: the count of its bits, that it has another character, or that what is lent is too short.
 pub enum Packed {
@@ -28,20 +28,30 @@ pub fn pack(line: &[u8], out: &mut [u8]) -> Packed
     Packed::Bits(line.len())
 }
 
-// Whether every character is 0 or 1.
+// Whether every character is 0 or 1. The loop goes on behind another character, so that the compiler can take many at a time.
 fn binary(line: &[u8]) -> bool
     ensures { λ r. ⌜ r ≡ binary (now (line .entry)) ⌝ }
 {
+    let mut good = true;
     let mut i = 0;
     while i < line.len() {
-        let c = line[i];
-        if c < b'0' {
-            return false;
-        }
-        if b'1' < c {
-            return false;
+        if !is_bit(line[i]) {
+            good = false;
         }
         i += 1;
+    }
+    good
+}
+
+// Whether a character is 0 or 1.
+fn is_bit(c: u8) -> bool
+    ensures { λ r. ⌜ r ≡ isBit c ⌝ }
+{
+    if c < b'0' {
+        return false;
+    }
+    if b'1' < c {
+        return false;
     }
     true
 }

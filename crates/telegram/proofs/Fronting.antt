@@ -2,7 +2,7 @@
 use mathlib.Core.List.{List}
 use mathlib.Core.Bool.{false}
 use mathlib.Core.Path.{_≡_, refl, sym, _∙_}
-use Prim.Native.Nat.{ℕ, _+_, _-_, _*_, _/_, _%_, _<_, _≤_}
+use Prim.Native.Nat.{ℕ, _+_, _-_, _*_, _≤_}
 use native.Mathlib.Omega.{arith}
 use lib.ListN.{length}
 use Rattle.bits.specs.Bits.{valueOf}
@@ -13,7 +13,7 @@ use Rattle.format.specs.Rules.{begun}
 use Rattle.format.specs.Table.{rowAt, act, fieldAt, codeOf, lowOf, highOf, words}
 use Rattle.format.proofs.Rows.{header-at}
 use Rattle.telegram.specs.Heads.{pigIn, totalIn, dupIn, behind, Fronted}
-use Rattle.telegram.specs.Machine.{contextOf, Slight, Advanced, Sound, Judged, Entered, Tidy, Beginning}
+use Rattle.telegram.specs.Machine.{contextOf, Slight, Advanced, Sound, Judged, Entered, Beginning}
 use Rattle.telegram.specs.declared.machine.Outcome.the-variants.{Go}
 use Rattle.telegram.specs.declared.state.Level.the-variants.{Header}
 use Rattle.telegram.specs.declared.state.State.{State}

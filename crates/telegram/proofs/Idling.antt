@@ -11,7 +11,7 @@ use native.Mathlib.Omega.{arith}
 use borrow.Author.Tests.{eqb-true, eqb-false}
 use lib.Dec.{eqb}
 use lib.ListN.{length}
-use Rattle.format.specs.Rules.{Terms, Earlier, broken, unless, forbidden}
+use Rattle.format.specs.Rules.{broken, unless, forbidden}
 use Rattle.format.specs.Table.{act, jump, fieldAt, codeOf}
 use Rattle.telegram.specs.Machine.{contextOf, levelOf, ruleAt, Tidy, Idle, later, Slight, reached, Advanced, Noted, Sound, Judged, Entered}
 use Rattle.telegram.specs.Seen.{Passed, Noticed}

@@ -3,8 +3,7 @@
 use mathlib.Core.Bool.{true}
 use mathlib.Core.List.{List}
 use mathlib.Core.Path.{_≡_, refl, sym, ap}
-use Prim.Native.Nat.{ℕ, _+_, _-_, _<_}
-use native.Mathlib.Omega.{arith}
+use Prim.Native.Nat.{ℕ, _+_, _-_}
 use Rattle.bits.specs.Bits.{valueOf}
 use Rattle.bits.specs.Take.{fieldBits, takeAt}
 use Rattle.bits.specs.declared.Taken.the-variants.{Field}

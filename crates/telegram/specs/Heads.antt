@@ -1,9 +1,9 @@
 -- The header taken at once, whose first 25 bits hold all of it that a rule reads; and a packet's head, whose NID_PACKET, Q_DIR and L_PACKET
 -- are 23. Definitions alone.
 use mathlib.Core.Path.{_≡_}
-use mathlib.Core.Bool.{Bool, false, not, _&&_}
+use mathlib.Core.Bool.{false, not, _&&_}
 use mathlib.Core.List.{List}
-use Prim.Native.Nat.{ℕ, _+_, _/_, _%_, _≤_, _<_}
+use Prim.Native.Nat.{ℕ, _+_, _/_, _%_, _≤_}
 use lib.Dec.{eqb}
 use lib.ListN.{length, take}
 use Rattle.bits.specs.Take.{takeAt}

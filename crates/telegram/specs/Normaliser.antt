@@ -9,7 +9,7 @@ use Rattle.bits.specs.Bits.{bitsOf, bytesFor}
 use Rattle.format.specs.Normal.{viewOf, choose, decimetres, steps, best, normal}
 use Rattle.format.specs.Normal.View.{kept, scales, measures}
 use Rattle.format.specs.Rules.{Terms, paper}
-use Rattle.format.specs.Table.{fieldAt, codeOf}
+use Rattle.format.specs.Table.{fieldAt}
 use Rattle.format.specs.Telegrams.{Entry, Result, Telegram, bits}
 use Rattle.format.specs.Telegrams.Result.{accepted, refused}
 use Rattle.format.specs.declared.Kind.the-variants.{Room}

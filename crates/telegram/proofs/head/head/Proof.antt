@@ -1,14 +1,10 @@
 -- `telegram::head::head` meets its contract. Assumes nothing.
-use mathlib.Core.Path.{_≡_, sym, ap, _∙_, subst}
+use mathlib.Core.Path.{sym, ap, _∙_, subst}
 use Prim.Native.Nat.{ℕ, _+_, _<_}
-use native.Mathlib.Numerals.{add-one}
 use native.Mathlib.Omega.{arith}
 use borrow.Author.Needs.{needs}
-use denote.Ref.{now}
-use Rattle.bits.specs.declared.Cursor.{Cursor}
 use Rattle.bits.specs.declared.Taken.the-variants.{Field}
 use Rattle.bits.proofs.Fields.{taken}
-use Rattle.format.proofs.Heads.{head-rows}
 use Rattle.format.proofs.Rows.{etcs-in}
 use Rattle.telegram.proofs.Heading.{head-inside}
 use Rattle.telegram.proofs.Senses.{etcs-row}

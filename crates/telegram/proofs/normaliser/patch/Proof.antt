@@ -4,7 +4,6 @@ use mathlib.Core.Path.{refl}
 use Prim.Native.Nat.{_-_}
 use native.Mathlib.Omega.{arith}
 use borrow.Author.Needs.{needs}
-use borrow.Author.Tests.{not-false}
 use Rattle.bits.proofs.Bytes.{below-known}
 use Rattle.distance.specs.declared.Scale.the-variants.{Tenths}
 use Rattle.telegram.proofs.Drifting.{further}
