@@ -20,10 +20,10 @@ use Rattle.telegram.specs.declared.state.State.{State}
 use Rattle.telegram.specs.declared.todo.Ahead.the-variants.{On}
 use Rattle.telegram.specs.declared.verdict.Verdict.the-variants.{Fine}
 use Rattle.telegram.proofs.Advancing.{advances-next, advances-end}
-use Rattle.telegram.proofs.Idling.{slight-free, fine-passed, fine-noticed}
+use Rattle.telegram.proofs.Idling.{slight-free}
 use Rattle.telegram.proofs.Moves.{start-todo}
 use Rattle.telegram.proofs.Noting.{withPig, pig-any, nothing, closes-header}
-use Rattle.telegram.proofs.Scanning.{Scans, scans-first, scans-slight, scans-on, fits}
+use Rattle.telegram.proofs.Scanning.{Scans, scans-first, scans-slight, scans-fine}
 use Rattle.telegram.proofs.Senses.{judge-free, judge-total, total-fits}
 use Rattle.telegram.proofs.Stepping.{settled-goes, settled-fresh, entered-on}
 
@@ -110,10 +110,7 @@ module _ (s : List ℕ) (n : ℕ) (rows seen : List ℕ) (low : n ≤ 830) (wide
 
   after-pig : At (inHeader 12 5 (pigIn a)) 4
   unfolding rowAt
-  after-pig =
-      scans-on after-media refl refl takes-pig
-      (fine-passed (inHeader 9 4 0) (after-media .drives .sound) (pigIn a) judged-pig (λ e. omega arith) seen 0 enters-pig) refl
-      (fine-noticed (inHeader 9 4 0) (after-media .drives .sound) (pigIn a) judged-pig (λ e. omega arith) seen 0 (omega (arith, long)) (fits after-media refl refl takes-pig))
+  after-pig = scans-fine after-media refl refl takes-pig judged-pig (λ e. omega arith) enters-pig
 
   -- N_TOTAL, at least N_PIG
 
@@ -147,9 +144,7 @@ module _ (s : List ℕ) (n : ℕ) (rows seen : List ℕ) (low : n ≤ 830) (wide
 
   after-total : At (inHeader 15 6 (pigIn a)) 5
   unfolding rowAt
-  after-total =
-      scans-on after-pig refl refl takes-total (fine-passed s5 sound-pig (totalIn a) judged-total (λ e. omega arith) seen 0 enters-total) refl
-      (fine-noticed s5 sound-pig (totalIn a) judged-total (λ e. omega arith) seen 0 (omega (arith, long)) (fits after-pig refl refl takes-total))
+  after-total = scans-fine after-pig refl refl takes-total judged-total (λ e. omega arith) enters-total
 
   -- M_DUP, M_MCOUNT, NID_C, NID_BG
 
@@ -204,9 +199,7 @@ module _ (s : List ℕ) (n : ℕ) (rows seen : List ℕ) (low : n ≤ 830) (wide
 
   after-link : At (behind a) 10
   unfolding rowAt
-  after-link =
-      scans-on after-group refl refl takes-link (fine-passed s10 (after-group .drives .sound) link judged-link (λ e. omega arith) seen 0 enters-link) refl
-      (fine-noticed s10 (after-group .drives .sound) link judged-link (λ e. omega arith) seen 0 (omega (arith, long)) (fits after-group refl refl takes-link))
+  after-link = scans-fine after-group refl refl takes-link judged-link (λ e. omega arith) enters-link
 
   -- the whole header
   pub scans-fronted : Scans s n rows seen 0 r (record { at = r .at }) 10

@@ -25,9 +25,8 @@ use Rattle.telegram.specs.declared.todo.Ahead.the-variants.{On}
 use Rattle.telegram.specs.declared.verdict.Verdict.the-variants.{Fine}
 use Rattle.telegram.proofs.Advancing.{advances-to, advances-next}
 use Rattle.telegram.proofs.Directions.{directs-here, collides-as-kept, passes, notices}
-use Rattle.telegram.proofs.Idling.{fine-passed, fine-noticed}
 use Rattle.telegram.proofs.Noting.{inPacket, withDir, withLong, packet-opens, dir-packet, long-packet}
-use Rattle.telegram.proofs.Scanning.{Scans, scans-on, fits}
+use Rattle.telegram.proofs.Scanning.{Scans, scans-on, scans-fine, fits}
 use Rattle.telegram.proofs.Senses.{rule-direction, judge-free, judge-packet, judge-direction, packet-some, direction-once}
 use Rattle.telegram.proofs.Stepping.{settled-goes, entered-on, stepped-goes}
 
@@ -103,9 +102,7 @@ module _ {s : List ℕ} {n : ℕ} {rows seen : List ℕ} {met : ℕ} {st : State
   few = omega (arith, i .drives .noted, i .drives .long, i .within, i .low)
 
   scans1 : Scans s n rows seen met s1 (record { at = st .at + 8 }) (count + 1)
-  scans1 =
-      scans-on i eight refl takes-id (fine-passed st (i .drives .sound) (idIn a) judged1 not-nine1 seen met enters1) refl
-      (fine-noticed st (i .drives .sound) (idIn a) judged1 not-nine1 seen met few (fits i eight refl takes-id))
+  scans1 = scans-fine i eight refl takes-id judged1 not-nine1 enters1
 
   -- Q_DIR
 
@@ -184,13 +181,8 @@ module _ {s : List ℕ} {n : ℕ} {rows seen : List ℕ} {met : ℕ} {st : State
         (subst (λ (x : ℕ). Noted s2 x (longIn a) (withLong s2 (longIn a))) (sym (rows-there .size)) (long-packet s2 (longIn a) refl)) (rw (← thirteen) (omega arith))
         (settled-goes (opened st a) sound3 (o .more))
 
-    few2 : met2 < length seen2
-    few2 = omega (arith, scans2 .drives .noted, scans2 .drives .long, scans2 .within, i .low)
-
     scans3 : Scans s n rows seen2 met2 (opened st a) (record { at = st .at + 23 }) (count + 1 + 1 + 1)
-    scans3 =
-        scans-on scans2 thirteen refl takes-long (fine-passed s2 sound2 (longIn a) judged3 not-nine3 seen2 met2 enters3) refl
-        (fine-noticed s2 sound2 (longIn a) judged3 not-nine3 seen2 met2 few2 (fits scans2 thirteen refl takes-long))
+    scans3 = scans-fine scans2 thirteen refl takes-long judged3 not-nine3 enters3
 
     -- the whole head
 

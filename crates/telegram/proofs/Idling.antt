@@ -80,11 +80,11 @@ module _ (s : State) (d : Sound s) (v : ℕ) (q : Slight (s .todo .node) v) {u :
   sound-after : Sound after
   sound-after = record { tidy = a .tidy; first = omega (arith, d .first); second = omega (arith, d .second); small = d .small }
 
-  enters : Entered s v (Go after)
-  enters = entered-on s v u s x (Go after) a notes ex (settled-goes after sound-after f)
+  pub slight-entered : Entered s v (Go after)
+  slight-entered = entered-on s v u s x (Go after) a notes ex (settled-goes after sound-after f)
 
-  judged : Judged s v false Fine
-  judged p l h = by (decLe 3 code)
+  pub slight-judged : Judged s v false Fine
+  slight-judged p l h = by (decLe 3 code)
     where
       by : Dec (3 ≤ code) → none ≡ broken p (contextOf l s) (ruleAt (s .todo .node)) v
       by (yes g) =
@@ -94,9 +94,5 @@ module _ (s : State) (d : Sound s) (v : ℕ) (q : Slight (s .todo .node) v) {u :
           ∙ judge-range p (contextOf l s) (fieldAt (s .todo .node)) v r
       by (no g) = let r = lt-of-not-le g in judge-free p (contextOf l s) (fieldAt (s .todo .node)) v (omega arith)
 
-  module _ (seen : List ℕ) (met : ℕ) where
-    pub slight-passed : Passed seen met s v (Go after)
-    slight-passed = fine-passed s d v judged (kept-not 9 (omega arith) (omega arith)) seen met enters
-
-    pub slight-noticed : met < length seen → v < 2 ^ fieldAt (s .todo .node) .width → Noticed seen met s v met seen
-    slight-noticed = fine-noticed s d v judged (kept-not 9 (omega arith) (omega arith)) seen met
+  pub slight-not : code ≡ 9 → ⊥
+  slight-not = kept-not 9 (omega arith) (omega arith)

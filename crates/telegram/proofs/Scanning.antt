@@ -18,7 +18,7 @@ use Rattle.bits.proofs.Bytes.{length-bitsOf, below-bitsOf, below-take}
 use Rattle.bits.proofs.Fields.{IsField, taken, take-whole}
 use Rattle.format.specs.Rules.{Earlier, begun, due, past, paper, packetPlace}
 use Rattle.format.specs.Rules.Next.{over}
-use Rattle.format.specs.Table.{act, fieldAt, words}
+use Rattle.format.specs.Table.{act, fieldAt, codeOf, words}
 use Rattle.format.specs.Telegrams.{all, bitsIn, fromBits, whole, read}
 use Rattle.format.specs.Telegrams.Taken.{got, lacks}
 use Rattle.format.specs.Telegrams.Result.{refused}
@@ -26,18 +26,19 @@ use Rattle.format.specs.declared.Kind.{Kind}
 use Rattle.format.specs.declared.Kind.the-variants.{Ended, Trailing}
 use Rattle.format.specs.declared.Answer.the-variants.{Accepted}
 use Rattle.laws.proofs.Sources.{Sent, from-bits, width-positive}
-use Rattle.telegram.specs.Machine.{view, Beginning, Advanced, Drifted, Slight, reached}
+use Rattle.telegram.specs.Machine.{view, Beginning, Advanced, Drifted, Slight, reached, Judged, Entered}
 use Rattle.telegram.specs.Machine.Drifted.{nothing, field}
 use Rattle.telegram.specs.Reader.{answerOf}
 use Rattle.telegram.specs.declared.state.State.{State}
 use Rattle.telegram.specs.declared.todo.Todo.{Todo}
 use Rattle.telegram.specs.declared.todo.Ahead.the-variants.{On}
+use Rattle.telegram.specs.declared.verdict.Verdict.the-variants.{Fine}
 use Rattle.telegram.specs.declared.machine.Outcome.{Outcome}
 use Rattle.telegram.specs.declared.machine.Outcome.the-variants.{Go, Over, Breaks}
 use Rattle.telegram.proofs.Stepping.{width-in}
 use Rattle.telegram.specs.Seen.{Passed, Noticed}
 use Rattle.telegram.proofs.Driving.{Drives, drives-first, due-is, here, refused-lacking, refused-broken, accepted-mark, refused-trailing, mark-counted, moves, drives-on}
-use Rattle.telegram.proofs.Idling.{idle-ahead, slight-free, slight-passed, slight-noticed}
+use Rattle.telegram.proofs.Idling.{idle-ahead, slight-free, fine-passed, fine-noticed, slight-judged, slight-not, slight-entered}
 use Rattle.format.specs.Fields as fields
 use Rattle.format.specs.Rules as rules
 
@@ -200,23 +201,27 @@ pub scans-here : {s : List ℕ} {n : ℕ} {rows seen : List ℕ} {met : ℕ} {st
     → Scans s n rows seen met st (record { at = st .at }) count
 scans-here i = record { low = i .low; wide = i .wide; drives = i .drives; here = refl; within = i .within; few = i .few }
 
--- past a value of which nothing is kept
+-- past a value that keeps its rule, where no packet's Q_DIR is due
 module _ {s : List ℕ} {n : ℕ} {rows seen : List ℕ} {met : ℕ} {st : State} {c : Cursor} {count : ℕ} (i : Scans s n rows seen met st c count)
-    {w : ℕ} (ew : w ≡ fieldAt (st .todo .node) .width) {t : Taken} (e : t ≡ takeAt s n w (c .at)) {v : ℕ} {next : Cursor} (h : t ≡ Field v next)
-    (q : Slight (st .todo .node) v) {u : Todo} (a : Advanced (st .todo) v (On u)) (f : act (u .node) ≡ 0 → ⊥) where
-  ends-at : next .at ≡ st .at + fieldAt (st .todo .node) .width
-  ends-at = let g = is-field i ew e h in omega (arith, g .past, i .here)
+    {w : ℕ} (ew : w ≡ fieldAt (st .todo .node) .width) {t : Taken} (e : t ≡ takeAt s n w (c .at)) {v : ℕ} {next : Cursor} (h : t ≡ Field v next) where
+  pub scans-fine : Judged st v false Fine → (codeOf (fieldAt (st .todo .node) .sense) ≡ 9 → ⊥) → {r : State} → Entered st v (Go r)
+      → Scans s n rows seen met r next (count + 1)
+  scans-fine j nine a =
+      scans-on i ew e h (fine-passed st (i .drives .sound) v j nine seen met a) refl
+      (fine-noticed st (i .drives .sound) v j nine seen met (omega (arith, i .drives .noted, i .drives .long, i .within, i .low)) (fits i ew e h))
 
-  passes-it : Passed seen met st v (Go (reached st (next .at) u))
-  passes-it = slight-passed st (i .drives .sound) v q a f ends-at seen met
+  -- and of which nothing is kept
+  module _ (q : Slight (st .todo .node) v) {u : Todo} (a : Advanced (st .todo) v (On u)) (f : act (u .node) ≡ 0 → ⊥) where
+    ends-at : next .at ≡ st .at + fieldAt (st .todo .node) .width
+    ends-at = let g = is-field i ew e h in omega (arith, g .past, i .here)
 
-  pub scans-slight : Scans s n rows seen met (reached st (next .at) u) next (count + 1)
-  scans-slight =
-      scans-on i ew e h passes-it refl
-      (slight-noticed st (i .drives .sound) v q a f ends-at seen met (omega (arith, i .drives .noted, i .drives .long, i .within, i .low)) (fits i ew e h))
+    pub scans-slight : Scans s n rows seen met (reached st (next .at) u) next (count + 1)
+    scans-slight =
+        scans-fine (slight-judged st (i .drives .sound) v q a f ends-at) (slight-not st (i .drives .sound) v q a f ends-at)
+        (slight-entered st (i .drives .sound) v q a f ends-at)
 
-  pub less-slight : n - next .at < n - st .at
-  less-slight = less i ew e h passes-it refl
+    pub less-slight : n - next .at < n - st .at
+    less-slight = omega (arith, ends-at, scans-slight .within, width-positive (fieldAt (st .todo .node)))
 
 -- past fields that no rule reads
 module _ {s : List ℕ} {n : ℕ} {rows seen : List ℕ} {met : ℕ} {st : State} {c : Cursor} {count : ℕ} (i : Scans s n rows seen met st c count) where
