@@ -26,7 +26,7 @@ use Rattle.format.specs.declared.Kind.{Kind}
 use Rattle.format.specs.declared.Kind.the-variants.{Ended, Trailing}
 use Rattle.format.specs.declared.Answer.the-variants.{Accepted}
 use Rattle.laws.proofs.Sources.{Sent, from-bits, width-positive}
-use Rattle.telegram.specs.Machine.{view, Beginning, Advanced, Drifted, Slight, reached, Judged, Entered}
+use Rattle.telegram.specs.Machine.{view, Beginning, Advanced, later, Drifted, Slight, reached, Judged, Entered}
 use Rattle.telegram.specs.Machine.Drifted.{nothing, field}
 use Rattle.telegram.specs.Reader.{answerOf}
 use Rattle.telegram.specs.declared.state.State.{State}
@@ -231,7 +231,10 @@ module _ {s : List ℕ} {n : ℕ} {rows seen : List ℕ} {met : ℕ} {st : State
   scans-drifted (field {u} {x} {m} d idle free h) =
       let j = scans-drifted d in
       let w = fieldAt (u .node) .width in
-      let whole = take-whole s n w x (width-in (fieldAt (u .node))) h (i .wide) in
-      let g = idle-ahead u (j .drives .sound .tidy) idle (valueOf (fieldBits s w x)) in
-      let c : count + (m + 1) ≡ count + m + 1 = omega arith in
-      rw c (scans-slight j refl refl whole (slight-free free) (g .0) (g .1))
+      let v = valueOf (fieldBits s w x) in
+      let g = idle-ahead u (j .drives .sound .tidy) idle v in
+      subst (λ (k : ℕ). Scans s n rows seen met (reached st (x + w) (later u)) (record { at = x + w }) k) (count-more m)
+      (scans-slight j refl refl (take-whole s n w x (width-in (fieldAt (u .node))) h (i .wide)) (slight-free free) (g .0) (g .1))
+    where
+      count-more : (m : ℕ) → count + m + 1 ≡ count + (m + 1)
+      count-more m = omega arith
