@@ -1,8 +1,8 @@
 // Fields of bits inside bytes, the highest bit of byte 0 first.
 //
 // `Cursor::take` reads a field and `put` writes one, by way of a window of four bytes where one holds the field, and else a byte
-// at a time; `Cursor::skip` goes past bits unread. No public function asks anything of its caller: every position, width, count and slice length has its answer, and
-// the definitions in specs/ say which.
+// at a time; `Cursor::skip` goes past bits unread. No public function asks anything of its caller: every position, width, count and
+// slice length has its answer, and the definitions in specs/ say which.
 ghost use mathlib.Core.Path.{_≡_};
 ghost use Prim.Native.Nat.{_/_, _%_, _^_, _+_, _*_, _≤_, _<_, min};
 ghost use mathlib.Core.Bool.{false};

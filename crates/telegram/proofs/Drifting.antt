@@ -10,6 +10,7 @@ use Rattle.bits.specs.declared.Skipped.{Skipped}
 use Rattle.bits.specs.declared.Skipped.the-variants.{To}
 use Rattle.bits.proofs.Fields.{IsPast, skipped}
 use Rattle.format.specs.Table.{act, jump, fieldAt, codeOf}
+use Rattle.format.proofs.Rows.{next-in}
 use Rattle.laws.proofs.Sources.{width-positive}
 use Rattle.telegram.specs.Machine.{Tidy, Idle, later, Unread, Drifted}
 use Rattle.telegram.specs.Machine.Drifted.{nothing, field}
@@ -29,6 +30,11 @@ pub record Drifting (n : ℕ) (told : Bool) (first : Todo) (start : ℕ) (t : To
   pub drifted : Drifted n told first start t at m
   pub tidy : Tidy t
   pub few : m + start ≤ at
+
+-- the row behind a field that steers nothing is in the table
+pub after-in : {n : ℕ} {told : Bool} {first : Todo} {start : ℕ} {t : Todo} {at m : ℕ} → Drifting n told first start t at m → act (t .node) ≡ 2
+    → t .node + 1 < 213
+after-in {t = t} i p = let l = next-in (t .node) (i .tidy .inside) (omega arith) in omega arith
 
 pub drifting-first : {n : ℕ} {told : Bool} {t : Todo} {at : ℕ} → Tidy t → Drifting n told t at t at 0
 drifting-first d = record { drifted = nothing; tidy = d; few = omega arith }

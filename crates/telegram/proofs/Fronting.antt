@@ -2,7 +2,7 @@
 use mathlib.Core.List.{List}
 use mathlib.Core.Bool.{false}
 use mathlib.Core.Path.{_≡_, refl, sym, _∙_}
-use Prim.Native.Nat.{ℕ, _+_, _-_, _*_, _≤_}
+use Prim.Native.Nat.{ℕ, _+_, _*_, _<_, _≤_}
 use native.Mathlib.Omega.{arith}
 use lib.ListN.{length}
 use Rattle.bits.specs.Bits.{valueOf}
@@ -39,6 +39,11 @@ first-begins = record {
   right = rw (start-todo 1 refl, header-at);
   sound = record { tidy = record { inside = omega arith; settled = λ e. refl }; first = omega arith; second = omega arith; small = omega arith };
 }
+
+-- at a field of it
+sound-header : (x k p : ℕ) → k < 213 → act k ≡ 2 → Sound (inHeader x k p)
+sound-header x k p l e =
+    record { tidy = record { inside = l; settled = λ z. absurd (omega arith) }; first = omega arith; second = omega arith; small = omega arith }
 
 -- a value inside the range of its field
 in-range : (k v : ℕ) → codeOf (fieldAt k .sense) ≡ 10 → lowOf (fieldAt k) ≤ v → v ≤ highOf (fieldAt k) → Slight k v
@@ -84,16 +89,6 @@ module _ (s : List ℕ) (n : ℕ) (rows seen : List ℕ) (low : n ≤ 830) (wide
 
   -- N_PIG, which is kept
 
-  sound-pig : Sound (inHeader 12 5 (pigIn a))
-  unfolding rowAt
-  sound-pig =
-      record {
-        tidy = record { inside = omega arith; settled = λ e. let z : _≡_ {A = ℕ} 0 1 = cc in absurd (omega arith) };
-        first = omega arith;
-        second = omega arith;
-        small = omega arith;
-      }
-
   judged-pig : Judged (inHeader 9 4 0) (pigIn a) false Fine
   unfolding rowAt
   judged-pig p l h = judge-free p (contextOf l (inHeader 9 4 0)) (fieldAt 4) (pigIn a) (omega arith)
@@ -106,7 +101,7 @@ module _ (s : List ℕ) (n : ℕ) (rows seen : List ℕ) (low : n ≤ 830) (wide
   enters-pig =
       entered-on (inHeader 9 4 0) (pigIn a) (inHeader 12 5 0 .todo) (withPig (inHeader 9 4 0) (pigIn a)) 12 _
       (advances-next (inHeader 9 4 0 .todo) (pigIn a) (after-media .drives .sound .tidy) refl (λ e. omega arith))
-      (pig-any (inHeader 9 4 0) (pigIn a)) refl (settled-goes (inHeader 12 5 (pigIn a)) sound-pig (λ e. omega arith))
+      (pig-any (inHeader 9 4 0) (pigIn a)) refl (settled-goes (inHeader 12 5 (pigIn a)) (sound-header 12 5 (pigIn a) (omega arith) refl) (λ e. omega arith))
 
   after-pig : At (inHeader 12 5 (pigIn a)) 4
   unfolding rowAt
@@ -116,16 +111,6 @@ module _ (s : List ℕ) (n : ℕ) (rows seen : List ℕ) (low : n ≤ 830) (wide
 
   abbrev s5 : State
   s5 = inHeader 12 5 (pigIn a)
-
-  sound-total : Sound (inHeader 15 6 (pigIn a))
-  unfolding rowAt
-  sound-total =
-      record {
-        tidy = record { inside = omega arith; settled = λ e. let z : _≡_ {A = ℕ} 0 1 = cc in absurd (omega arith) };
-        first = omega arith;
-        second = omega arith;
-        small = omega arith;
-      }
 
   judged-total : Judged s5 (totalIn a) false Fine
   unfolding rowAt
@@ -138,9 +123,9 @@ module _ (s : List ℕ) (n : ℕ) (rows seen : List ℕ) (low : n ≤ 830) (wide
   unfolding rowAt
   enters-total =
       entered-on s5 (totalIn a) (inHeader 15 6 0 .todo) s5 15 _
-      (advances-next (s5 .todo) (totalIn a) (sound-pig .tidy) refl (λ e. omega arith))
+      (advances-next (s5 .todo) (totalIn a) (after-pig .drives .sound .tidy) refl (λ e. omega arith))
       (nothing s5 (totalIn a) 5 (λ e. omega arith) (λ e. omega arith) (λ e. omega arith) (λ e. omega arith) (λ e. omega arith))
-      refl (settled-goes (inHeader 15 6 (pigIn a)) sound-total (λ e. omega arith))
+      refl (settled-goes (inHeader 15 6 (pigIn a)) (sound-header 15 6 (pigIn a) (omega arith) refl) (λ e. omega arith))
 
   after-total : At (inHeader 15 6 (pigIn a)) 5
   unfolding rowAt

@@ -70,8 +70,8 @@ dirIn a = a / 8192 % 4
 abbrev pub longIn : ℕ → ℕ
 longIn a = a % 8192
 
--- between packets
-pub record Heading (rows seen : List ℕ) (n met : ℕ) (s : State) : Type 0 where
+-- the array is the table of rows, and the packets before lie in theirs
+pub record Heading (rows seen : List ℕ) (met : ℕ) : Type 0 where
   pub table : rows ≡ words
   pub inside : met ≤ length seen
 

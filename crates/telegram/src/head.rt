@@ -70,7 +70,7 @@ pub(crate) fn head(
     met: usize,
     st: State,
 ) -> Begun
-    requires { ⌜ Heading (now rows) (now seen) n met st ⌝ }
+    requires { ⌜ Heading (now rows) (now seen) met ⌝ }
     ensures { λ r. ⌜ Headed (now (s .entry)) n (now (seen .entry)) met st r ⌝ }
 {
     let c = Cursor { at: st.at };

@@ -4,8 +4,8 @@ use Prim.Native.Nat.{_+_, _-_}
 use native.Mathlib.Omega.{arith}
 use borrow.Author.Needs.{needs}
 use borrow.Author.Tests.{not-false}
-use Rattle.format.proofs.Rows.{next-in, jump-in}
-use Rattle.telegram.proofs.Drifting.{Drifting, drifting-first, more, nearer, drifts-next, drifts-again}
+use Rattle.format.proofs.Rows.{jump-in}
+use Rattle.telegram.proofs.Drifting.{Drifting, after-in, drifting-first, more, nearer, drifts-next, drifts-again}
 use Rattle.telegram.proofs.driver.drift.Statement.{statement}
 use Rattle.telegram.proofs.driver.drift.Tie as tie
 
@@ -38,9 +38,7 @@ add-act c = omega (arith, c .before .before .before .before .before .before .bef
 
 act-requires : tie.Need-act-requires Inv-loop μ-loop
 act-requires c κs =
-    let a = c .before .before .before .before .before .before .unread .ensures (not-false _ (c .before .before .before .before .before .if1 .left)) in
-    let l = next-in (c .before .before .before .before .before .before .before .loop .t .node) (c .before .before .before .before .before .before .before .loop .inv .tidy .inside) (omega (arith, a .0)) in
-    record { table = c .before .before .before .before .before .before .before .before .pre .0; inside = omega arith }
+    record { table = c .before .before .before .before .before .before .before .before .pre .0; inside = after-in (c .before .before .before .before .before .before .before .loop .inv) (c .before .before .before .before .before .before .unread .ensures (not-false _ (c .before .before .before .before .before .if1 .left)) .0) }
 
 -- the next row
 
@@ -65,24 +63,18 @@ add-jump c = omega (arith, c .before .before .before .before .before .before .be
 
 jump-requires : tie.Need-jump-requires Inv-loop μ-loop
 jump-requires c κs =
-    let a = c .before .before .before .before .before .before .before .before .unread .ensures (not-false _ (c .before .before .before .before .before .before .before .if1 .left)) in
-    let l = next-in (c .before .before .before .before .before .before .before .before .before .loop .t .node) (c .before .before .before .before .before .before .before .before .before .loop .inv .tidy .inside) (omega (arith, a .0)) in
-    record { table = c .before .before .before .before .before .before .before .before .before .before .pre .0; inside = omega arith }
+    record { table = c .before .before .before .before .before .before .before .before .before .before .pre .0; inside = after-in (c .before .before .before .before .before .before .before .before .before .loop .inv) (c .before .before .before .before .before .before .before .before .unread .ensures (not-false _ (c .before .before .before .before .before .before .before .if1 .left)) .0) }
 
 add-jump-2 : tie.Need-add-jump-2 Inv-loop μ-loop
 add-jump-2 c = omega (arith, c .before .before .before .before .before .before .before .before .before .before .before .before .before .loop .inv .tidy .inside)
 
 jump-requires-2 : tie.Need-jump-requires-2 Inv-loop μ-loop
 jump-requires-2 c κs =
-    let a = c .before .before .before .before .before .before .before .before .before .before .before .before .unread .ensures (not-false _ (c .before .before .before .before .before .before .before .before .before .before .before .if1 .left)) in
-    let l = next-in (c .before .before .before .before .before .before .before .before .before .before .before .before .before .loop .t .node) (c .before .before .before .before .before .before .before .before .before .before .before .before .before .loop .inv .tidy .inside) (omega (arith, a .0)) in
-    record { table = c .before .before .before .before .before .before .before .before .before .before .before .before .before .before .pre .0; inside = omega arith }
+    record { table = c .before .before .before .before .before .before .before .before .before .before .before .before .before .before .pre .0; inside = after-in (c .before .before .before .before .before .before .before .before .before .before .before .before .before .loop .inv) (c .before .before .before .before .before .before .before .before .before .before .before .before .unread .ensures (not-false _ (c .before .before .before .before .before .before .before .before .before .before .before .if1 .left)) .0) }
 
 add-t-2 : tie.Need-add-t-2 Inv-loop μ-loop
 add-t-2 c =
-    let a = c .before .before .before .before .before .before .before .before .before .before .before .before .before .unread .ensures (not-false _ (c .before .before .before .before .before .before .before .before .before .before .before .before .if1 .left)) in
-    let l = next-in (c .before .before .before .before .before .before .before .before .before .before .before .before .before .before .loop .t .node) (c .before .before .before .before .before .before .before .before .before .before .before .before .before .before .loop .inv .tidy .inside) (omega (arith, a .0)) in
-    let j = jump-in (c .before .before .before .before .before .before .before .before .before .before .before .before .before .before .loop .t .node + 1) (omega arith) in
+    let j = jump-in (c .before .before .before .before .before .before .before .before .before .before .before .before .before .before .loop .t .node + 1) (after-in (c .before .before .before .before .before .before .before .before .before .before .before .before .before .before .loop .inv) (c .before .before .before .before .before .before .before .before .before .before .before .before .before .unread .ensures (not-false _ (c .before .before .before .before .before .before .before .before .before .before .before .before .if1 .left)) .0)) in
     omega (arith, c .jump2 .ensures)
 
 sub-t : tie.Need-sub-t Inv-loop μ-loop
