@@ -22,11 +22,11 @@ use Rattle.format.specs.declared.Answer.{Answer}
 use Rattle.format.specs.declared.Answer.the-variants.{Accepted, Refused}
 use Rattle.laws.proofs.Demand2.{length-bits, below-bits}
 use Rattle.laws.proofs.Demand3.{normal-count, normal-accepted, normal-again, same-says}
-use Rattle.telegram.specs.Reader.{atOnce, checked}
-use Rattle.telegram.specs.Writer.{sizeOf, bytesOver}
-use Rattle.telegram.specs.Normaliser.{normalOf, normaliseInto, Normalise}
-use Rattle.telegram.proofs.Answers.{check-judges}
-use Rattle.telegram.proofs.Checking.{was-accepted, was-refused}
+use Rattle.states.specs.Reader.{atOnce, checked}
+use Rattle.states.specs.Writer.{sizeOf, bytesOver}
+use Rattle.states.specs.Normaliser.{normalOf, normaliseInto, Normalise}
+use Rattle.states.proofs.Answers.{check-judges}
+use Rattle.states.proofs.Checking.{was-accepted, was-refused}
 use Rattle.again.specs.Again.{againOf}
 use Rattle.again.specs.Normals.{againIn, Renormalised, same, alike, SaysSame}
 use Rattle.again.specs.declared.normals.Alike.{Alike}

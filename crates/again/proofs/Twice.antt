@@ -19,10 +19,10 @@ use Rattle.format.specs.declared.Answer.{Answer}
 use Rattle.format.specs.declared.Answer.the-variants.{Accepted, Refused}
 use Rattle.laws.proofs.Demand2.{length-bits, below-bits, room, writes, write-is}
 use Rattle.laws.proofs.Tile.{tiled}
-use Rattle.telegram.specs.Reader.{atOnce, checked, readInto, answerOf, valuesOver, Read}
-use Rattle.telegram.specs.Writer.{writeInto, sizeOf, bytesOver, Write}
-use Rattle.telegram.proofs.Answers.{sized-is, clear-is, Sound, check-judges, read-judges, answer-accepted, answer-refused, Stored, accepted-stores}
-use Rattle.telegram.proofs.Checking.{AcceptedAs, was-accepted, was-refused}
+use Rattle.states.specs.Reader.{atOnce, checked, readInto, answerOf, valuesOver, Read}
+use Rattle.states.specs.Writer.{writeInto, sizeOf, bytesOver, Write}
+use Rattle.states.proofs.Answers.{sized-is, clear-is, Sound, check-judges, read-judges, answer-accepted, answer-refused, Stored, accepted-stores}
+use Rattle.states.proofs.Checking.{AcceptedAs, was-accepted, was-refused}
 use Rattle.again.specs.Again.{againOf, againOver, Rewritten, Reread}
 
 -- ---- bits that are all 0

@@ -12,8 +12,8 @@ use Rattle.format.specs.Telegrams.Result.{accepted, refused}
 use Rattle.format.specs.declared.Kind.the-variants.{Room}
 use Rattle.format.specs.declared.Answer.{Answer}
 use Rattle.format.specs.declared.Answer.the-variants.{Accepted, Refused}
-use Rattle.telegram.specs.Reader.{readInto, valuesOver}
-use Rattle.telegram.specs.Writer.{writeInto, bytesOver}
+use Rattle.states.specs.Reader.{readInto, valuesOver}
+use Rattle.states.specs.Writer.{writeInto, bytesOver}
 
 -- ---- the second of the two, by the first one's result
 

@@ -10,8 +10,8 @@ use Rattle.format.specs.Rules.{Terms}
 use Rattle.format.specs.Telegrams.{Result, bits}
 use Rattle.format.specs.Telegrams.Result.{accepted, refused}
 use Rattle.format.specs.declared.Answer.{Answer}
-use Rattle.telegram.specs.Writer.{bytesOver}
-use Rattle.telegram.specs.Normaliser.{normaliseInto}
+use Rattle.states.specs.Writer.{bytesOver}
+use Rattle.states.specs.Normaliser.{normaliseInto}
 use Rattle.again.specs.Again.{againOf}
 use Rattle.again.specs.declared.normals.Alike.{Alike}
 use Rattle.again.specs.declared.normals.Alike.the-variants.{Same, Other, First, Second}

@@ -6,7 +6,7 @@ use Rattle.format.specs.Packets.{_⧺_, times, header, etcs, ctcs, find}
 use Rattle.format.specs.Rules.{begun, next, misdirected, broken, noted, closes, settled, onward, step, radioFrom, among, packetPlace, sameAsEarlier}
 use Rattle.format.specs.Normal.{metric, normalUnder}
 use Rattle.format.specs.Telegrams.{bitsIn, valuesIn, fromBits, fromValues, drive, read, write}
-use Rattle.telegram.specs.Reader.{checked}
+use Rattle.states.specs.Reader.{checked}
 use Rattle.cases.specs.Cases.{holds, hold, cases}
 
 pub all-hold : hold cases ≡ true

@@ -9,8 +9,8 @@ use Rattle.format.specs.Refusals.{numberOf}
 use Rattle.format.specs.Rules.{paper}
 use Rattle.format.specs.Telegrams.{Result, bits, values, bitCount, write}
 use Rattle.format.specs.Telegrams.Result.{accepted, refused}
-use Rattle.telegram.specs.Reader.{checked}
-use Rattle.telegram.specs.Normaliser.{normalOf}
+use Rattle.states.specs.Reader.{checked}
+use Rattle.states.specs.Normaliser.{normalOf}
 
 -- What a case claims: of bytes and n, or of values that follow the header of case 1 and are followed by the end mark.
 pub data Claim : Type 0 where

@@ -2,8 +2,9 @@
 use mathlib.Core.Path.{_≡_, _∙_, sym, ap}
 use Prim.Native.Nat.{ℕ}
 use Rattle.bits.proofs.Once.{Once, equation-once}
-use Rattle.distance.specs.Distance.{scaledBy, inSteps}
+use Rattle.distance.specs.Distance.{scaledBy, inDecimetres, inSteps, fitting}
 use Rattle.distance.specs.declared.Scale.{Scale}
+use Rattle.distance.specs.declared.Scale.the-variants.{Metres}
 use Rattle.distance.specs.declared.Steps.{Steps}
 use Rattle.distance.specs.declared.Decimetres.{Decimetres}
 
@@ -19,3 +20,6 @@ decimetres-once n a b p q = ap (λ (x : ℕ). record { 0 = x }) (p ∙ sym q)
 
 pub in-steps-once : (q : Scale) (d : ℕ) → Once (λ r. r ≡ inSteps q d)
 in-steps-once q d = equation-once (inSteps q d)
+
+pub whole-metres-once : (q : Scale) (n w : ℕ) → Once (λ r. r ≡ fitting w (inSteps Metres (inDecimetres q n)))
+whole-metres-once q n w = equation-once (fitting w (inSteps Metres (inDecimetres q n)))

@@ -40,6 +40,11 @@ wholeSteps step d = wholeIf (eqb (d % step) 0 && ltb (d / step) (2 ^ 32)) (d / s
 abbrev pub inSteps : Scale → ℕ → Told
 inSteps q d = wholeSteps (stepOf q) d
 
+-- whether what is told is whole steps that fit w bits
+abbrev pub fitting : ℕ → Told → Bool
+fitting w (told.Whole n) = ltb (n .0) (2 ^ w)
+fitting w told.Not = false
+
 -- 50 steps of 10 m are 5,000 dm, and 500 steps of 1 m; 1,005 dm are no whole number of metres
 examples : inDecimetres Tens 50 ∷ inDecimetres Metres 500 ∷ [] ≡ 5000 ∷ 5000 ∷ []
 examples = refl
@@ -47,3 +52,7 @@ examples = refl
 back : inSteps Metres 5000 ∷ inSteps Metres 1005 ∷ inSteps Tenths 1005 ∷ []
     ≡ told.Whole (record { 0 = 500 }) ∷ told.Not ∷ told.Whole (record { 0 = 1005 }) ∷ []
 back = refl
+
+-- 104,857 steps of 10 m are 1,048,570 m, which 20 bits hold, and one more is not
+fit : fitting 20 (inSteps Metres (inDecimetres Tens 104857)) ∷ fitting 20 (inSteps Metres (inDecimetres Tens 104858)) ∷ [] ≡ true ∷ false ∷ []
+fit = refl

@@ -2,7 +2,8 @@
 // nowhere else; they are converted by functions that know the packet's Q_SCALE.
 ghost use mathlib.Core.Path.{_≡_};
 ghost use Prim.Native.Nat.{_<_};
-ghost use Rattle.distance.specs.Distance.{scaledBy, inDecimetres, inSteps, wholeSteps};
+ghost use Rattle.distance.specs.Distance.{scaledBy, inDecimetres, inSteps, wholeSteps, fitting};
+ghost use Rattle.distance.specs.declared.Scale.the-variants.{Metres};
 
 // The scale of a packet: steps of 10 cm, of 1 m or of 10 m.
 pub enum Scale {
@@ -65,6 +66,17 @@ impl Steps {
             Scale::Tenths => Decimetres(n),
             Scale::Metres => Decimetres(10 * n),
             Scale::Tens => Decimetres(100 * n),
+        }
+    }
+
+    // Whether these steps of a packet's scale are a whole number of metres that fits w bits.
+    pub fn whole_metres(self, q: Scale, w: usize) -> bool
+        ensures { λ r. ⌜ r ≡ fitting w (inSteps Metres (inDecimetres q (self .0))) ⌝ }
+    {
+        let d = self.decimetres(q);
+        match d.steps(Scale::Metres) {
+            Told::Whole(m) => bits::fits(m.number() as u64, w),
+            Told::Not => false,
         }
     }
 }

@@ -58,7 +58,7 @@ told-steps {r = r} t = ap (steps r) (sym (t .exact)) ∙ mul-div-cancel (t .coun
 pub told-same : (q : ℕ) (e : Entry) (es : List Entry) → Fair e es → view e es ≡ measures → Told q q e es
 told-same q e es f h = record { count = e .value; small = f .small; finite = h; exact = refl }
 
-and-two : (a b : Bool) → (a && b) ≡ true → (a ≡ true) × (b ≡ true)
+pub and-two : (a b : Bool) → (a && b) ≡ true → (a ≡ true) × (b ≡ true)
 and-two true b h = (refl, h)
 and-two false b h = (cc, cc)
 

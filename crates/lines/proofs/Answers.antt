@@ -9,7 +9,7 @@ use lib.ListN.{length, take, getD}
 use mathlib.Core.Bool.{Bool, cond}
 use Rattle.bits.specs.Bits.{bytesFor, bytesOf}
 use Rattle.format.specs.Rules.{paper}
-use Rattle.telegram.specs.Reader.{checked, answerOf}
+use Rattle.states.specs.Reader.{checked, answerOf}
 use Rattle.packing.specs.Packing.{bitsIn, Pack}
 use Rattle.packing.specs.declared.Packed.{Packed}
 use Rattle.packing.specs.declared.Packed.the-variants.{Bits, Other, Room}

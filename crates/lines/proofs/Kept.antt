@@ -11,7 +11,7 @@ use lib.ListN.{length, take}
 use lib.Seq.{take-all, take-append-add, length-take-le}
 use Rattle.bits.specs.Bits.{bytesOf}
 use Rattle.format.specs.Rules.{paper}
-use Rattle.telegram.specs.Reader.{checked, answerOf}
+use Rattle.states.specs.Reader.{checked, answerOf}
 use Rattle.packing.specs.Packing.{binary, bitsIn}
 use Rattle.lines.specs.Lines.{answerTo, noTelegram, most, Kept}
 use Rattle.lines.specs.Text.{textOf, responseTo, Appended}

@@ -3,7 +3,7 @@ use mathlib.Core.Path.{_≡_, refl}
 use mathlib.Core.List.{[], _∷_}
 use Rattle.format.specs.declared.Kind.the-variants.{Size, Trailing}
 use Rattle.format.specs.declared.Answer.the-variants.{Accepted, Refused}
-use Rattle.telegram.specs.Reader.{checked}
+use Rattle.states.specs.Reader.{checked}
 use Rattle.packing.specs.Packing.{binary}
 use Rattle.lines.specs.Lines.{answerTo, noTelegram}
 use Rattle.lines.specs.Text.{digitsOf, decimal, textOf}

@@ -9,7 +9,7 @@ use Rattle.format.specs.Rules.{paper}
 use Rattle.format.specs.declared.Kind.the-variants.{Size}
 use Rattle.format.specs.declared.Answer.{Answer}
 use Rattle.format.specs.declared.Answer.the-variants.{Refused}
-use Rattle.telegram.specs.Reader.{checked, answerOf}
+use Rattle.states.specs.Reader.{checked, answerOf}
 use Rattle.packing.specs.Packing.{binary, bitsIn}
 
 -- "A line with another character .. gives `refused 2 0`"

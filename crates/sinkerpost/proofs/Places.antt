@@ -15,10 +15,10 @@ use Rattle.format.specs.Telegrams.Result.{accepted, refused}
 use Rattle.format.specs.declared.Answer.{Answer}
 use Rattle.format.specs.declared.Kind.the-variants.{Room, Size, Padding}
 use Rattle.laws.proofs.Bounds.{read-placed}
-use Rattle.telegram.specs.Reader.{sized, clear, atOnce, checked, answered, answerOf}
-use Rattle.telegram.specs.Writer.{sizeOf}
-use Rattle.telegram.specs.Normaliser.{normalOf, normaliseInto}
-use Rattle.telegram.proofs.Checking.{Sized, sized-is}
+use Rattle.states.specs.Reader.{sized, clear, atOnce, checked, answered, answerOf}
+use Rattle.states.specs.Writer.{sizeOf}
+use Rattle.states.specs.Normaliser.{normalOf, normaliseInto}
+use Rattle.states.proofs.Checking.{Sized, sized-is}
 use Rattle.sinkerpost.specs.Codes.{Placed}
 
 -- the same of what a check comes to

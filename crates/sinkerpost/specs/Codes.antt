@@ -7,9 +7,9 @@ use Rattle.format.specs.Refusals.{codeOf}
 use Rattle.format.specs.Rules.{Terms}
 use Rattle.format.specs.declared.Answer.{Answer}
 use Rattle.format.specs.declared.Answer.the-variants.{Accepted, Refused}
-use Rattle.telegram.specs.Reader.{checked, answerOf}
-use Rattle.telegram.specs.Writer.{sizeOf, bytesOver}
-use Rattle.telegram.specs.Normaliser.{normaliseInto}
+use Rattle.states.specs.Reader.{checked, answerOf}
+use Rattle.states.specs.Writer.{sizeOf, bytesOver}
+use Rattle.states.specs.Normaliser.{normaliseInto}
 
 -- "there the answer is 0, or 1,024 times the refusal number plus the place"
 abbrev pub checkCode : Terms → List ℕ → ℕ → ℕ

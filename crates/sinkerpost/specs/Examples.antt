@@ -6,7 +6,7 @@ use Rattle.bits.specs.Bits.{digits, valueOf, bitsOf}
 use Rattle.format.specs.Packets.{header, etcs, find}
 use Rattle.format.specs.Rules.{begun, next, broken, noted, closes, settled, onward, step, packetPlace, paper}
 use Rattle.format.specs.Telegrams.{valuesIn, fromBits, drive, read}
-use Rattle.telegram.specs.Reader.{checked}
+use Rattle.states.specs.Reader.{checked}
 use Rattle.sinkerpost.specs.Codes.{checkCode}
 
 -- 90 02 7F 81 25 DF FF and a last byte

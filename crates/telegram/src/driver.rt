@@ -1,32 +1,32 @@
 // What every driver of the machine does with a value: one field further, with the packets that came before in an array.
 ghost use mathlib.Core.Path.{_≡_};
-ghost use mathlib.Core.Bool.{true};
-ghost use Rattle.format.specs.Table.{act, words};
-ghost use Rattle.telegram.specs.Machine.{InTable, Tidy, Directing, Unread, Drifted, Slight, Eased};
-ghost use Rattle.telegram.specs.Seen.{Turning, Passed, Noticed};
+ghost use Rattle.format.specs.Table.{words};
+ghost use Rattle.states.specs.Machine.{InTable, Tidy, Directing, Drifted, Eased};
+ghost use Rattle.states.specs.Seen.{Turning, Passed, Noticed};
 use crate::earlier::note;
 use crate::earlier::repeated;
-use crate::machine::Outcome;
 use crate::machine::step;
-use crate::rows::ANY;
-use crate::rows::DIRECTION;
-use crate::rows::END;
-use crate::rows::SCALE;
-use crate::rows::SEND;
-use crate::rows::TEXT;
 use crate::rows::act;
 use crate::rows::code;
 use crate::rows::high;
 use crate::rows::jump;
 use crate::rows::low;
 use crate::rows::width;
-use crate::state::Level;
-use crate::state::State;
-use crate::todo::Todo;
 use crate::todo::moved;
 use crate::todo::turned;
 use bits::Cursor;
 use bits::Skipped;
+use states::Easy;
+use states::Level;
+use states::Outcome;
+use states::Reach;
+use states::State;
+use states::Todo;
+use states::codes::DIRECTION;
+use states::codes::END;
+use states::codes::SEND;
+use states::slight;
+use states::unread;
 
 // The field that is due holds v, after the packets of the first n of seen.
 pub(crate) fn turn(rows: &[u32; 213], seen: &[u16], n: usize, s: State, v: u64) -> Outcome
@@ -63,13 +63,6 @@ fn directing(rows: &[u32; 213], s: State) -> bool
     }
 }
 
-// Where a telegram stands behind fields that were gone past: what is to be sent there, the cursor, and how many fields they were.
-pub struct Reach {
-    pub todo: Todo,
-    pub cursor: Cursor,
-    pub fields: usize,
-}
-
 // Goes past fields unread, through the cursor, up to one that has to be read, that is the last of its packet or of its list, or that would end
 // past bit n. What follows a field is told apart here in place, so that the compiler can guess it.
 pub(crate) fn drift(rows: &[u32; 213], n: usize, told: bool, from: Todo, start: Cursor) -> Reach
@@ -81,7 +74,7 @@ pub(crate) fn drift(rows: &[u32; 213], n: usize, told: bool, from: Todo, start: 
     let mut fields: usize = 0;
     loop {
         let k = t.node;
-        if !unread(rows, k, told) {
+        if !unread(act(rows, k), code(rows, k), told) {
             break;
         }
         let Skipped::To(next) = c.skip(n, width(rows, k)) else {
@@ -111,47 +104,13 @@ pub(crate) fn drift(rows: &[u32; 213], n: usize, told: bool, from: Todo, start: 
     }
 }
 
-// Whether a field steers nothing and may be gone past: in a telegram that is told again, where it is no scale and no distance; and else,
-// where it may hold anything and nothing is kept of it.
-fn unread(rows: &[u32; 213], k: usize, told: bool) -> bool
-    requires { ⌜ InTable (now rows) k ⌝ }
-    ensures { λ r. ⌜ (r ≡ true → (act k ≡ 2) × Unread told k) ⌝ }
-{
-    if act(rows, k) != SEND {
-        return false;
-    }
-    let c = code(rows, k);
-    if told {
-        if c == ANY {
-            return true;
-        }
-        if c <= TEXT {
-            return false;
-        }
-        if c == SCALE {
-            return false;
-        }
-        return true;
-    }
-    if TEXT < c {
-        return false;
-    }
-    true
-}
-
-// Where a value leads that needs nothing of the telegram's state, or that it needs more.
-pub enum Easy {
-    To(Todo),
-    Not,
-}
-
 // What is to be sent after a value that keeps its rule and of which nothing is kept, if that is a field.
 pub(crate) fn ease(rows: &[u32; 213], t: Todo, v: u64) -> Easy
     requires { ⌜ (now rows ≡ words) × Tidy t ⌝ }
     ensures { λ r. ⌜ Eased t v r ⌝ }
 {
     let k = t.node;
-    if !slight(rows, k, v) {
+    if !slight(code(rows, k), low(rows, k), high(rows, k), v) {
         return Easy::Not;
     }
     if act(rows, k) < SEND {
@@ -162,25 +121,4 @@ pub(crate) fn ease(rows: &[u32; 213], t: Todo, v: u64) -> Easy
         return Easy::Not;
     }
     Easy::To(u)
-}
-
-// Whether nothing is kept of a value and it keeps its rule, which is a range or none.
-fn slight(rows: &[u32; 213], k: usize, v: u64) -> bool
-    requires { ⌜ InTable (now rows) k ⌝ }
-    ensures { λ r. ⌜ (r ≡ true → Slight k v) ⌝ }
-{
-    let c = code(rows, k);
-    if c <= TEXT {
-        return true;
-    }
-    if c <= DIRECTION {
-        return false;
-    }
-    if v < low(rows, k) {
-        return false;
-    }
-    if high(rows, k) < v {
-        return false;
-    }
-    true
 }

@@ -1,24 +1,19 @@
 // What stands in front, taken as one field: the header's first 25 bits, with all of it that a rule reads, and a packet's NID_PACKET, Q_DIR and
 // L_PACKET, which are 23.
-ghost use Rattle.telegram.specs.Heads.{Started, Heading, Headed};
-use crate::earlier::collides;
-use crate::rows::DIRECTION;
-use crate::rows::END;
+ghost use Rattle.states.specs.Heads.{Started, Heading, Headed};
 use crate::rows::act;
 use crate::rows::code;
-use crate::state::Level;
-use crate::state::State;
-use crate::todo::Todo;
 use bits::Cursor;
 use bits::Skipped;
 use bits::Taken;
 use format::packets;
-
-// Where what is taken leads, if it keeps every rule; and else, that its fields have to be looked at one by one.
-pub enum Begun {
-    To(State),
-    Not,
-}
+use states::Begun;
+use states::Level;
+use states::State;
+use states::Todo;
+use states::codes::DIRECTION;
+use states::codes::END;
+use states::collides;
 
 // The header. Its first three fields are 1, 16 and 0, which is 288 in nine bits.
 pub(crate) fn header(s: &[u8], n: usize) -> Begun

@@ -10,7 +10,6 @@ mod rows;
 mod state;
 mod todo;
 mod verdict;
-mod views;
 mod writer;
 
 pub use normaliser::normalise;

@@ -1,136 +1,23 @@
 // The machine that follows document 01 field by field. `step` is the definition `step` of the crate format; what a state stands for there
 // is said in specs/Machine.antt.
-ghost use mathlib.Core.Path.{_≡_};
-ghost use mathlib.Core.List.{List};
-ghost use Prim.Native.Nat.{_<_, _≤_};
-ghost use Rattle.format.specs.Rules.{Earlier};
-ghost use Rattle.format.specs.Rules as rules;
-ghost use Rattle.telegram.specs.Machine.{Noted, Settling, Settled, Stepping, Entered, Stepped, contextOf, levelOf};
-use crate::rows::DIRECTION;
-use crate::rows::END;
-use crate::rows::PACKET;
-use crate::rows::PIG;
-use crate::rows::SIZE;
-use crate::rows::USER;
+ghost use Rattle.states.specs.Machine.{Settling, Settled, Stepping, Entered, Stepped};
 use crate::rows::act;
 use crate::rows::code;
 use crate::rows::width;
-use crate::state::Level;
-use crate::state::State;
-use crate::todo::Ahead;
-use crate::todo::Todo;
 use crate::todo::advance;
-use crate::verdict::Verdict;
 use crate::verdict::judge;
 use format::Kind;
-
-// What a value leads to.
-pub enum Outcome {
-    Go(State),
-    Over,
-    Breaks(Kind),
-}
-
-// ---- what a value leaves for later rules
-
-fn directed(s: State, v: u64) -> State
-    ensures { λ r. ⌜ Noted s 9 v r ⌝ }
-{
-    let l = s.level;
-    let mut r = s;
-    match l {
-        Level::Header => r,
-        Level::Packet => {
-            r.dir = v;
-            r
-        }
-        Level::User => r,
-    }
-}
-
-fn measured(s: State, v: u64) -> State
-    ensures { λ r. ⌜ Noted s 3 v r ⌝ }
-{
-    let l = s.level;
-    let mut r = s;
-    match l {
-        Level::Header => r,
-        Level::Packet => {
-            r.long = v;
-            r
-        }
-        Level::User => {
-            r.userlong = v;
-            r
-        }
-    }
-}
-
-// What the rules after a field with the code c go by.
-fn noted(s: State, c: u32, v: u64) -> State
-    ensures { λ r. ⌜ Noted s c v r ⌝ }
-{
-    if c == DIRECTION {
-        return directed(s, v);
-    }
-    if c == SIZE {
-        return measured(s, v);
-    }
-    let t = s.todo;
-    if c == PACKET {
-        return State {
-            at: s.at,
-            todo: t,
-            level: Level::Packet,
-            start: s.start,
-            id: v,
-            dir: 0,
-            long: 0,
-            userstart: 0,
-            userlong: 0,
-            pig: s.pig,
-        };
-    }
-    if c == USER {
-        return State {
-            at: s.at,
-            todo: t,
-            level: Level::User,
-            start: s.start,
-            id: s.id,
-            dir: s.dir,
-            long: s.long,
-            userstart: s.at,
-            userlong: 0,
-            pig: s.pig,
-        };
-    }
-    let mut r = s;
-    if c == PIG {
-        r.pig = v;
-    }
-    r
-}
+use states::Ahead;
+use states::Level;
+use states::Outcome;
+use states::State;
+use states::Todo;
+use states::Verdict;
+use states::closes;
+use states::codes::END;
+use states::noted;
 
 // ---- one field
-
-// Every packet that ends here is as long as its L_PACKET says, the inner one tested first.
-fn closes(s: State) -> bool
-    requires { ⌜ (s .start ≤ s .at) × (s .userstart ≤ s .at) ⌝ }
-    ensures { λ r. ⌜ ((l : List Earlier) → r ≡ rules.closes (s .at) (contextOf l s) (levelOf (s .level))) ⌝ }
-{
-    let l = s.level;
-    match l {
-        Level::Header => true,
-        Level::Packet => (s.at - s.start) as u64 == s.long,
-        Level::User => {
-            if (s.at - s.userstart) as u64 != s.userlong {
-                return false;
-            }
-            (s.at - s.start) as u64 == s.long
-        }
-    }
-}
 
 // After a packet's last field its length is tested, and the next packet or the end mark is due.
 fn settled(rows: &[u32; 213], s: State) -> Outcome

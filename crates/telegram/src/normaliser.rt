@@ -10,18 +10,15 @@ ghost use Rattle.distance.specs.Distance.{numberOf};
 ghost use Rattle.format.specs.Normal.{metric};
 ghost use Rattle.format.specs.Rules.{paper};
 ghost use Rattle.format.specs.Table.{words, fieldAt};
-ghost use Rattle.telegram.specs.Along.{Some, Whichever};
-ghost use Rattle.telegram.specs.Machine.{InTable};
-ghost use Rattle.telegram.specs.Normaliser.{Normalise, Telling, Patching, Normalised, converted, inMetres, Rescaled, Tells, Sendable, Looked};
+ghost use Rattle.states.specs.Along.{Some, Whichever};
+ghost use Rattle.states.specs.Machine.{InTable};
+ghost use Rattle.states.specs.Normaliser.{Normalise, Telling, Patching, Normalised, converted, Rescaled, Tells, Sendable, Looked};
 use crate::answer::refuse;
 use crate::driver::drift;
 use crate::reader::check;
+use crate::rows::code;
 use crate::rows::width;
-use crate::todo::Ahead;
-use crate::todo::Todo;
 use crate::todo::advance;
-use crate::views::View;
-use crate::views::counts;
 use bits::Cursor;
 use bits::Taken;
 use distance::Scale;
@@ -31,21 +28,12 @@ use distance::Told;
 use format::Answer;
 use format::Kind;
 use format::table;
-
-// What is sent for a value, and the scales that hold from there on: the telegram's, and the normal form's.
-pub struct Retold {
-    pub value: u64,
-    pub from: Scale,
-    pub to: Scale,
-}
-
-// What a field says to telling the distances up to the next scale in metres: nothing against it, that it cannot be, or that the next
-// scale is here.
-pub enum Look {
-    Passes,
-    Fails,
-    Ends,
-}
+use states::Ahead;
+use states::Look;
+use states::Retold;
+use states::Todo;
+use states::View;
+use states::counts;
 
 // Writes the normal form of a telegram into out, and answers its n. A refusal leaves out as it was.
 pub fn normalise(s: &[u8], n: usize, out: &mut [u8]) -> Answer
@@ -137,7 +125,7 @@ fn retell(
     requires { ⌜ InTable (now rows) k × Sendable k v × Some (now s) n u (next .at) ⌝ }
     ensures { λ r. ⌜ Whichever (now (s .entry)) n u (next .at) (λ es. Tells from to k v es r) ⌝ }
 {
-    match counts(rows, k, v) {
+    match counts(code(rows, k), v) {
         View::Kept => Retold { value: v, from, to },
         View::Scales => rescale(rows, s, n, v, u, next),
         View::Measures => {
@@ -224,28 +212,16 @@ fn looked(rows: &[u32; 213], q: Scale, k: usize, v: u64, w: usize) -> Look
     requires { ⌜ InTable (now rows) k × (w ≡ fieldAt k .width) × (v < 2 ^ w) ⌝ }
     ensures { λ r. ⌜ Looked q k v w r ⌝ }
 {
-    match counts(rows, k, v) {
+    match counts(code(rows, k), v) {
         View::Kept => Look::Passes,
         View::Scales => Look::Ends,
         View::Measures => {
-            if in_metres(q, v, w) {
+            if Steps::new(v as u32).whole_metres(q, w) {
                 Look::Passes
             } else {
                 Look::Fails
             }
         }
-    }
-}
-
-// Whether v steps of the scale q are a whole number of metres that fits w bits.
-fn in_metres(q: Scale, v: u64, w: usize) -> bool
-    requires { ⌜ v < 1048576 ⌝ }
-    ensures { λ r. ⌜ r ≡ inMetres q v w ⌝ }
-{
-    let d = Steps::new(v as u32).decimetres(q);
-    match d.steps(Scale::Metres) {
-        Told::Whole(m) => bits::fits(m.number() as u64, w),
-        Told::Not => false,
     }
 }
 

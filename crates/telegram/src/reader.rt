@@ -7,30 +7,33 @@ ghost use lib.ListN.{length, take};
 ghost use Rattle.bits.specs.Bits.{bitsOf, bytesFor};
 ghost use Rattle.format.specs.Rules.{paper};
 ghost use Rattle.format.specs.Telegrams as telegrams;
-ghost use Rattle.telegram.specs.Reader.{sized, clear, checked, answerOf, Read};
-ghost use Rattle.telegram.specs.Filling.{Filling, Filled};
+ghost use Rattle.states.specs.Reader.{clear, checked, answerOf, Read};
+ghost use Rattle.states.specs.Filling.{Filling, Filled};
+ghost use Rattle.states.proofs.Scanning.{Scans};
 use crate::answer::refuse;
-use crate::driver::Easy;
 use crate::driver::drift;
 use crate::driver::ease;
 use crate::driver::keep;
 use crate::driver::turn;
 use crate::earlier::note;
-use crate::head::Begun;
 use crate::head::head;
 use crate::head::header;
-use crate::machine::Outcome;
 use crate::rows::width;
 use crate::state::begin;
-use crate::state::place;
-use crate::todo::Ahead;
-use crate::todo::Todo;
 use crate::todo::advance;
 use bits::Cursor;
 use bits::Taken;
 use format::Answer;
 use format::Kind;
 use format::table;
+use states::Ahead;
+use states::Begun;
+use states::Easy;
+use states::Outcome;
+use states::State;
+use states::Todo;
+use states::refused;
+use states::sized;
 
 // Whether the bytes and n are a telegram: Accepted with the count of its values, or its refusal.
 pub fn check(s: &[u8], n: usize) -> Answer
@@ -60,19 +63,6 @@ pub fn read(s: &[u8], n: usize, out: &mut [u64]) -> Answer
     a
 }
 
-// Whether n is the length of a telegram, and s has the bytes for it and no more.
-fn sized(s: &[u8], n: usize) -> bool
-    ensures { λ r. ⌜ r ≡ sized (now (s .entry)) n ⌝ }
-{
-    if n < 58 {
-        return false;
-    }
-    if 830 < n {
-        return false;
-    }
-    s.len() == bits::bytes_for(n)
-}
-
 // Whether the unused low bits of the last byte are 0: as one field, they are the number 0.
 fn clear(s: &[u8], n: usize) -> bool
     requires { ⌜ (n ≤ 830) × (length (now s) ≡ bytesFor n) ⌝ }
@@ -86,58 +76,72 @@ fn clear(s: &[u8], n: usize) -> bool
     }
 }
 
-// Goes over the fields of the first n bits of s up to the first broken rule or the end mark, each through the cursor: those that no rule reads
-// are gone past, and every other is taken. Every packet whose Q_DIR was taken is in seen: its Q_DIR has two
-// bits of the 830, so that there are not more than 415.
+// Goes over the fields of the first n bits of s: the header at once, where it keeps every rule, and else from its first field on.
 fn scan(s: &[u8], n: usize) -> Answer
     requires { ⌜ (n ≤ 830) × (n ≤ 8 * length (now s)) ⌝ }
     ensures { λ r. ⌜ r ≡ answerOf (telegrams.read paper (take n (bitsOf (now (s .entry))))) ⌝ }
 {
     let rows = table::rows();
     let mut seen = [0u16; 416];
-    let mut met: usize = 0;
-    let mut st = begin();
-    let mut count: usize = 0;
-    if let Begun::To(after) = header(s, n) {
-        st = after;
-        count = 10;
+    match header(s, n) {
+        Begun::To(after) => walk(&rows, s, n, &mut seen, after, 10),
+        Begun::Not => walk(&rows, s, n, &mut seen, begin(), 0),
     }
+}
+
+// Goes on from there, where so many fields were before, up to the first broken rule or the end mark, each field through the cursor: those that no
+// rule reads are gone past, and every other is taken. Every packet whose Q_DIR was taken is in seen: its Q_DIR has two bits of the 830, so that
+// there are not more than 415.
+fn walk(
+    rows: &[u32; 213],
+    s: &[u8],
+    n: usize,
+    seen: &mut [u16; 416],
+    from: State,
+    before: usize,
+) -> Answer
+    requires { ⌜ Scans (now s) n (now rows) (now seen) 0 from (record { at = from .at }) before ⌝ }
+    ensures { λ r. ⌜ r ≡ answerOf (telegrams.read paper (take n (bitsOf (now (s .entry))))) ⌝ }
+{
+    let mut met: usize = 0;
+    let mut st = from;
+    let mut count = before;
     loop {
-        let g = drift(&rows, n, false, st.todo, Cursor { at: st.at });
+        let g = drift(rows, n, false, st.todo, Cursor { at: st.at });
         let t = g.todo;
         let c = g.cursor;
         st.at = c.at;
         st.todo = t;
         count += g.fields;
         if t.node == 0 {
-            if let Begun::To(after) = head(&rows, s, n, &seen, met, st) {
-                met = note(&mut seen, met, true, after, after.dir);
+            if let Begun::To(after) = head(rows, s, n, seen, met, st) {
+                met = note(seen, met, true, after, after.dir);
                 st = after;
                 count += 3;
                 continue;
             }
         }
-        let Taken::Field(v, next) = c.take(s, n, width(&rows, t.node)) else {
-            return refuse(Kind::Ended, place(Kind::Ended, st, 0));
+        let Taken::Field(v, next) = c.take(s, n, width(rows, t.node)) else {
+            return refused(Kind::Ended, st, 0);
         };
-        if let Easy::To(u) = ease(&rows, t, v) {
+        if let Easy::To(u) = ease(rows, t, v) {
             st.at = next.at;
             st.todo = u;
             count += 1;
             continue;
         }
-        match turn(&rows, &seen, met, st, v) {
+        match turn(rows, seen, met, st, v) {
             Outcome::Breaks(kind) => {
-                return refuse(kind, place(kind, st, v));
+                return refused(kind, st, v);
             }
             Outcome::Over => {
                 if next.at == n {
                     return Answer::Accepted(count + 1);
                 }
-                return refuse(Kind::Trailing, place(Kind::Trailing, st, v));
+                return refused(Kind::Trailing, st, v);
             }
             Outcome::Go(after) => {
-                met = keep(&rows, &mut seen, met, st, v);
+                met = keep(rows, seen, met, st, v);
                 st = after;
                 count += 1;
             }

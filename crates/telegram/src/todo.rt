@@ -1,29 +1,16 @@
 // What is still to be sent of a packet, and what is after a value.
-ghost use mathlib.Core.Path.{_≡_};
 ghost use Prim.Native.Nat.{_<_};
 ghost use Rattle.format.specs.Table.{act};
-ghost use Rattle.telegram.specs.Machine.{InTable, Tidy, Followed, Moved, Turned, Advanced};
-use crate::rows::END;
-use crate::rows::NEST;
-use crate::rows::SEND;
-use crate::rows::TIMES;
+ghost use Rattle.states.specs.Machine.{InTable, Tidy, Followed, Moved, Turned, Advanced};
 use crate::rows::act;
 use crate::rows::jump;
 use format::packets;
-
-// What is to be sent: the items of row node; at the end of their group, the group left times more; and at the end of the group
-// around that, that group outer times more.
-pub struct Todo {
-    pub node: usize,
-    pub left: u64,
-    pub outer: u64,
-}
-
-// What is to be sent after a value, or that it is the end mark.
-pub enum Ahead {
-    On(Todo),
-    Mark,
-}
+use states::Ahead;
+use states::Todo;
+use states::codes::END;
+use states::codes::NEST;
+use states::codes::SEND;
+use states::codes::TIMES;
 
 // The row after a field that repeats nothing.
 fn follow(rows: &[u32; 213], k: usize, v: u64) -> usize

@@ -6,25 +6,20 @@ ghost use Rattle.format.specs.Packets.{find, etcs, ctcs};
 ghost use Rattle.format.specs.Rules.{unless, known, radioFrom};
 ghost use Rattle.format.specs.Table.{fieldAt, lowOf, highOf};
 ghost use Rattle.format.specs.declared.Kind.the-variants.{Unknown};
-ghost use Rattle.telegram.specs.Machine.{InTable, verdictOf, Ranged, Directed, Judging, Judged};
-use crate::rows::DIRECTION;
-use crate::rows::PACKET;
-use crate::rows::RADIO;
-use crate::rows::TOTAL;
-use crate::rows::USER;
+ghost use Rattle.states.specs.Machine.{InTable, verdictOf, Ranged, Directed, Judging, Judged};
 use crate::rows::code;
 use crate::rows::high;
 use crate::rows::low;
-use crate::state::Level;
-use crate::state::State;
 use format::Kind;
 use format::packets;
-
-// Whether a value keeps the rule of its field.
-pub enum Verdict {
-    Fine,
-    Broken(Kind),
-}
+use states::Level;
+use states::State;
+use states::Verdict;
+use states::codes::DIRECTION;
+use states::codes::PACKET;
+use states::codes::RADIO;
+use states::codes::TOTAL;
+use states::codes::USER;
 
 // The kind of a value that is not allowed: a header rule's, or a field's.
 fn forbidden(l: Level) -> Verdict

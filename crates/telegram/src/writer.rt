@@ -4,20 +4,20 @@
 ghost use mathlib.Core.Path.{_≡_};
 ghost use Rattle.format.specs.Rules.{paper};
 ghost use Rattle.format.specs.Telegrams as telegrams;
-ghost use Rattle.telegram.specs.Writer.{sizeOf, Write, Storing, Stored};
+ghost use Rattle.states.specs.Writer.{sizeOf, Write, Storing, Stored};
 use crate::answer::refuse;
 use crate::driver::keep;
 use crate::driver::turn;
-use crate::machine::Outcome;
 use crate::rows::width;
 use crate::state::begin;
-use crate::state::place;
-use crate::todo::Ahead;
-use crate::todo::Todo;
 use crate::todo::advance;
 use format::Answer;
 use format::Kind;
 use format::table;
+use states::Ahead;
+use states::Outcome;
+use states::Todo;
+use states::refused;
 
 // Writes the telegram with these values into out, and answers its n. A refusal leaves out as it was.
 pub fn write(values: &[u64], out: &mut [u8]) -> Answer
@@ -49,24 +49,24 @@ fn measure(values: &[u64]) -> Answer
         let k = t.node;
         let w = width(&rows, k);
         if values.len() <= i {
-            return refuse(Kind::Ended, place(Kind::Ended, st, 0));
+            return refused(Kind::Ended, st, 0);
         }
         let v = values[i];
         if !bits::fits(v, w) {
-            return refuse(Kind::Wide, place(Kind::Wide, st, 0));
+            return refused(Kind::Wide, st, 0);
         }
         if 830 < st.at + w {
-            return refuse(Kind::Full, place(Kind::Full, st, 0));
+            return refused(Kind::Full, st, 0);
         }
         match turn(&rows, &seen, met, st, v) {
             Outcome::Breaks(kind) => {
-                return refuse(kind, place(kind, st, v));
+                return refused(kind, st, v);
             }
             Outcome::Over => {
                 if i + 1 == values.len() {
                     return Answer::Accepted(st.at + w);
                 }
-                return refuse(Kind::Trailing, place(Kind::Trailing, st, v));
+                return refused(Kind::Trailing, st, v);
             }
             Outcome::Go(after) => {
                 met = keep(&rows, &mut seen, met, st, v);

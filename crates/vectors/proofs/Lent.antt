@@ -16,9 +16,9 @@ use Rattle.packing.proofs.Answers.{packed-whole}
 use Rattle.packing.specs.Packing.{Pack}
 use Rattle.packing.specs.declared.Packed.{Packed}
 use Rattle.packing.specs.declared.Packed.the-variants.{Bits}
-use Rattle.telegram.specs.Normaliser.{normaliseInto, Normalise}
-use Rattle.telegram.specs.Reader.{readInto, answerOf, valuesOver, Read}
-use Rattle.telegram.specs.Writer.{writeInto, sizeOf, bytesOver, Write}
+use Rattle.states.specs.Normaliser.{normaliseInto, Normalise}
+use Rattle.states.specs.Reader.{readInto, answerOf, valuesOver, Read}
+use Rattle.states.specs.Writer.{writeInto, sizeOf, bytesOver, Write}
 use Rattle.vectors.specs.Room.{Sent}
 
 front-within : (front before after : List ℕ) → after ≡ front ++ drop (length front) before → length after ≡ length before

@@ -1,7 +1,7 @@
 -- `telegram::driver::directing` meets its contract: the code of Q_DIR, in a packet and not in the CTCS packet inside one. Assumes nothing.
-use mathlib.Core.Path.{_∙_}
+use mathlib.Core.Path.{_∙_, sym}
 use borrow.Author.Needs.{needs}
-use Rattle.telegram.proofs.Directions.{directs-not, directs-elsewhere, directs-here, not-header, not-user}
+use Rattle.states.proofs.Directions.{directs-not, directs-elsewhere, directs-here, not-header, not-user}
 use Rattle.telegram.proofs.driver.directing.Statement.{statement}
 use Rattle.telegram.proofs.driver.directing.Tie as tie
 
@@ -24,7 +24,7 @@ returns-2 : tie.Need-returns-2
 returns-2 c = let a = c .before .before .before .before .before .args in directs-elsewhere (a .s) (not-header (a .s .level) (c .enum-told .given .1))
 
 returns-3 : tie.Need-returns-3
-returns-3 c = let a = c .before .before .before .before .before in directs-here (a .args .s) (a .pre .inside) (cc) (c .enum-told2 .given .1)
+returns-3 c = let a = c .before .before .before .before .before in directs-here (a .args .s) (a .pre .inside) (sym (c .before .before .before .code .ensures) ∙ c .before .before .if1 .left) (c .enum-told2 .given .1)
 
 returns-4 : tie.Need-returns-4
 returns-4 c = let a = c .before .before .before .before .before .args in directs-elsewhere (a .s) (not-user (a .s .level) (c .enum-told3 .given .1))

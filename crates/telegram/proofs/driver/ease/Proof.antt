@@ -1,45 +1,61 @@
 -- `telegram::driver::ease` meets its contract. Assumes nothing.
-use mathlib.Core.Path.{_∙_}
+use mathlib.Core.Path.{_∙_, sym}
 use native.Mathlib.Omega.{arith}
 use borrow.Author.Needs.{needs}
 use borrow.Author.Tests.{not-false}
-use Rattle.telegram.proofs.Advancing.{advances-turned}
+use Rattle.states.proofs.Advancing.{advances-turned}
+use Rattle.states.proofs.Idling.{slight-so}
 use Rattle.telegram.proofs.driver.ease.Statement.{statement}
 use Rattle.telegram.proofs.driver.ease.Tie as tie
 
+code-requires : tie.Need-code-requires
+code-requires c κs = record { table = c .pre .0; inside = c .pre .1 .inside }
+
+low-requires : tie.Need-low-requires
+low-requires c κs = record { table = c .before .pre .0; inside = c .before .pre .1 .inside }
+
+high-requires : tie.Need-high-requires
+high-requires c κs = record { table = c .before .before .pre .0; inside = c .before .before .pre .1 .inside }
+
 slight-requires : tie.Need-slight-requires
-slight-requires c κs = record { table = c .pre .0; inside = c .pre .1 .inside }
+slight-requires c κs = search needs
 
 returns : tie.Need-returns
 returns c = search needs
 
 act-requires : tie.Need-act-requires
-act-requires c κs = record { table = c .before .before .pre .0; inside = c .before .before .pre .1 .inside }
+act-requires c κs = record { table = c .before .before .before .before .before .pre .0; inside = c .before .before .before .before .before .pre .1 .inside }
 
 returns-2 : tie.Need-returns-2
 returns-2 c = search needs
 
 moved-requires : tie.Need-moved-requires
-moved-requires c κs = let z = c .if2 .left in (record { table = c .before .before .before .before .pre .0; inside = c .before .before .before .before .pre .1 .inside }, omega (arith, c .before .act .ensures))
+moved-requires c κs = let z = c .if2 .left in (record { table = c .before .before .before .before .before .before .before .pre .0; inside = c .before .before .before .before .before .before .before .pre .1 .inside }, omega (arith, c .before .act .ensures))
 
 turned-requires : tie.Need-turned-requires
-turned-requires c κs = record { table = c .before .before .before .before .before .pre .0; inside = c .moved .ensures .inside }
+turned-requires c κs = record { table = c .before .before .before .before .before .before .before .before .pre .0; inside = c .moved .ensures .inside }
 
 act-requires-2 : tie.Need-act-requires-2
-act-requires-2 c κs = record { table = c .before .before .before .before .before .before .pre .0; inside = c .turned .ensures .inside }
+act-requires-2 c κs = record { table = c .before .before .before .before .before .before .before .before .before .pre .0; inside = c .turned .ensures .inside }
 
 returns-3 : tie.Need-returns-3
 returns-3 c = search needs
 
 returns-4 : tie.Need-returns-4
 returns-4 c =
-    let z = c .before .before .before .before .if2 .left in
-    (c .before .before .before .before .before .before .before .slight .ensures (not-false _ (c .before .before .before .before .before .before .if1 .left)), advances-turned _ _ (c .before .before .before .before .before .before .before .before .pre .1) _ _ (omega (arith, c .before .before .before .before .before .act .ensures)) (c .before .before .before .moved .ensures) (c .before .before .turned .ensures) (λ e. c .if3 .left (c .before .act2 .ensures ∙ e)), λ e. c .if3 .left (c .before .act2 .ensures ∙ e))
+    let z = c .before .before .before .before .if2 .left in (
+      slight-so (c .before .before .before .before .before .before .before .before .before .before .before .args .t .node) (c .before .before .before .before .before .before .before .before .before .before .before .args .v) _ _ _ (c .before .before .before .before .before .before .before .before .before .before .code .ensures) (c .before .before .before .before .before .before .before .before .before .low .ensures) (c .before .before .before .before .before .before .before .before .high .ensures) (sym (c .before .before .before .before .before .before .before .slight .ensures) ∙ not-false _ (c .before .before .before .before .before .before .if1 .left)),
+      advances-turned _ _ (c .before .before .before .before .before .before .before .before .before .before .before .pre .1) _ _ (omega (arith, c .before .before .before .before .before .act .ensures)) (c .before .before .before .moved .ensures) (c .before .before .turned .ensures) (λ e. c .if3 .left (c .before .act2 .ensures ∙ e)),
+      λ e. c .if3 .left (c .before .act2 .ensures ∙ e),
+    )
 
 pub ease-spec : {M : Type 1} → statement M
 ease-spec =
     tie.close
     (tie.spec
+    code-requires
+    low-requires
+    high-requires
     slight-requires
     returns
     act-requires

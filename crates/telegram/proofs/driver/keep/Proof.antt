@@ -1,6 +1,6 @@
 -- `telegram::driver::keep` meets its contract: only a packet's Q_DIR, which has two bits, is kept. Assumes nothing.
 use borrow.Author.Needs.{needs}
-use Rattle.telegram.proofs.Directions.{dir-small, notices}
+use Rattle.states.proofs.Directions.{dir-small, notices}
 use Rattle.telegram.proofs.driver.keep.Statement.{statement}
 use Rattle.telegram.proofs.driver.keep.Tie as tie
 

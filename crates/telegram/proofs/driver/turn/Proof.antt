@@ -1,7 +1,7 @@
 -- `telegram::driver::turn` meets its contract: at a packet's Q_DIR the step is told whether it collides; elsewhere nothing asks. Assumes nothing.
 use native.Mathlib.Omega.{arith}
 use borrow.Author.Needs.{needs}
-use Rattle.telegram.proofs.Directions.{dir-small, passes}
+use Rattle.states.proofs.Directions.{dir-small, passes}
 use Rattle.telegram.proofs.driver.turn.Statement.{statement}
 use Rattle.telegram.proofs.driver.turn.Tie as tie
 

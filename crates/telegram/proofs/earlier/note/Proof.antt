@@ -3,7 +3,7 @@ use native.Mathlib.Omega.{arith}
 use borrow.Author.Tests.{not-true, not-false}
 use borrow.Author.Needs.{needs}
 use denote.Ref.{now}
-use Rattle.telegram.proofs.Directions.{held-none, held-one}
+use Rattle.states.proofs.Directions.{held-none, held-one}
 use Rattle.telegram.proofs.earlier.note.Statement.{statement}
 use Rattle.telegram.proofs.earlier.note.Tie as tie
 

@@ -1,7 +1,8 @@
 -- `telegram::earlier::repeated` meets its contract: the test of those before, at a packet's Q_DIR. Assumes nothing.
+use borrow.Author.Needs.{needs}
 use borrow.Author.Tests.{not-true, not-false}
 use denote.Ref.{now}
-use Rattle.telegram.proofs.Directions.{collides-as-kept, absurd-flag}
+use Rattle.states.proofs.Directions.{collides-as-kept, absurd-flag}
 use Rattle.telegram.proofs.earlier.repeated.Statement.{statement}
 use Rattle.telegram.proofs.earlier.repeated.Tie as tie
 
@@ -9,7 +10,7 @@ returns : tie.Need-returns
 returns c = λ e. absurd-flag _ e (not-true _ (c .if1 .taken))
 
 collides-requires : tie.Need-collides-requires
-collides-requires c κs = let a = c .before .before in (a .pre .inside, a .pre .fits (not-false _ (c .if1 .left)), a .pre .small)
+collides-requires c κs = search needs
 
 returns-2 : tie.Need-returns-2
 returns-2 c =

@@ -6,8 +6,8 @@ use borrow.Author.Needs.{needs}
 use Rattle.bits.specs.declared.Taken.the-variants.{Field}
 use Rattle.bits.proofs.Fields.{taken}
 use Rattle.format.proofs.Rows.{etcs-in}
-use Rattle.telegram.proofs.Heading.{head-inside}
-use Rattle.telegram.proofs.Senses.{etcs-row}
+use Rattle.states.proofs.Heading.{head-inside}
+use Rattle.states.proofs.Senses.{etcs-row}
 use Rattle.telegram.proofs.head.head.Statement.{statement}
 use Rattle.telegram.proofs.head.head.Tie as tie
 
@@ -53,9 +53,7 @@ returns-4 : tie.Need-returns-4
 returns-4 c = search needs
 
 collides-requires : tie.Need-collides-requires
-collides-requires c κs =
-    let f = taken _ _ _ _ _ _ (sym (c .before .before .before .before .before .before .before .before .before .take .ensures) ∙ c .before .before .before .before .before .before .before .a .given .1) in
-    (c .before .before .before .before .before .before .before .before .before .before .before .before .pre .inside, omega arith, omega (arith, f .small))
+collides-requires c κs = search needs
 
 returns-5 : tie.Need-returns-5
 returns-5 c = search needs

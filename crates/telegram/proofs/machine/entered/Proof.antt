@@ -2,7 +2,7 @@
 use mathlib.Core.Path.{sym, _∙_}
 use native.Mathlib.Omega.{arith}
 use borrow.Author.Needs.{needs}
-use Rattle.telegram.proofs.Stepping.{entered-mark, entered-on, width-in, packet-small}
+use Rattle.states.proofs.Stepping.{entered-mark, entered-on, width-in, packet-small}
 use Rattle.format.specs.Table.{fieldAt}
 use Rattle.telegram.proofs.machine.entered.Statement.{statement}
 use Rattle.telegram.proofs.machine.entered.Tie as tie

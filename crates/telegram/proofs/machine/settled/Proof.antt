@@ -2,7 +2,7 @@
 use mathlib.Core.Path.{sym, _∙_}
 use borrow.Author.Tests.{not-true, not-false}
 use borrow.Author.Needs.{needs}
-use Rattle.telegram.proofs.Stepping.{settled-goes, settled-breaks, settled-fresh}
+use Rattle.states.proofs.Stepping.{settled-goes, settled-breaks, settled-fresh}
 use Rattle.telegram.proofs.machine.settled.Statement.{statement}
 use Rattle.telegram.proofs.machine.settled.Tie as tie
 
@@ -18,12 +18,12 @@ closes-requires c κs = search needs
 returns-2 : tie.Need-returns-2
 returns-2 c =
     let a = c .before .before .before .before .before in
-    settled-breaks (a .args .s) (a .pre .sound) (cc) (λ l. sym (c .before .closes .ensures l) ∙ not-true _ (c .if2 .taken))
+    settled-breaks (a .args .s) (a .pre .sound) (sym (c .before .before .before .act .ensures) ∙ c .before .before .if1 .left) (λ l. sym (c .before .closes .ensures l) ∙ not-true _ (c .if2 .taken))
 
 returns-3 : tie.Need-returns-3
 returns-3 c =
     let a = c .before .before .before .before .before in
-    settled-fresh (a .args .s) (a .pre .sound) (cc) (λ l. sym (c .before .closes .ensures l) ∙ not-false _ (c .if2 .left))
+    settled-fresh (a .args .s) (a .pre .sound) (sym (c .before .before .before .act .ensures) ∙ c .before .before .if1 .left) (λ l. sym (c .before .closes .ensures l) ∙ not-false _ (c .if2 .left))
 
 pub settled-spec : {M : Type 1} → statement M
 settled-spec = tie.close (tie.spec act-requires returns closes-requires returns-2 returns-3)

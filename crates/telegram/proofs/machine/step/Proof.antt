@@ -1,6 +1,6 @@
 -- `telegram::machine::step` meets its contract: the value's rule first, then what follows it. Assumes nothing.
 use borrow.Author.Needs.{needs}
-use Rattle.telegram.proofs.Stepping.{stepped-breaks, stepped-goes}
+use Rattle.states.proofs.Stepping.{stepped-breaks, stepped-goes}
 use Rattle.telegram.proofs.machine.step.Statement.{statement}
 use Rattle.telegram.proofs.machine.step.Tie as tie
 

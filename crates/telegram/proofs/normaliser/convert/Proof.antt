@@ -2,7 +2,7 @@
 use mathlib.Core.Path.{_∙_, sym, ap}
 use borrow.Author.Needs.{needs}
 use Rattle.distance.specs.Distance.{inDecimetres, inSteps}
-use Rattle.telegram.specs.Normaliser.{wholeOr}
+use Rattle.states.specs.Normaliser.{wholeOr}
 use Rattle.telegram.proofs.normaliser.convert.Statement.{statement}
 use Rattle.telegram.proofs.normaliser.convert.Tie as tie
 

@@ -5,11 +5,11 @@ use Prim.Native.Nat.{_-_}
 use native.Mathlib.Omega.{arith}
 use borrow.Author.Needs.{needs}
 use Rattle.format.specs.Telegrams.{Entry}
-use Rattle.telegram.specs.Along.{Along}
-use Rattle.telegram.proofs.Deciding.{Deciding, deciding-first, value-fits, fails, ends, marks, deciding-on}
-use Rattle.telegram.proofs.Drifting.{further}
-use Rattle.telegram.proofs.Quieting.{deciding-drifted}
-use Rattle.telegram.proofs.Taking.{never-short, less}
+use Rattle.states.specs.Along.{Along}
+use Rattle.states.proofs.Deciding.{Deciding, deciding-first, value-fits, fails, ends, marks, deciding-on}
+use Rattle.states.proofs.Drifting.{further}
+use Rattle.states.proofs.Quieting.{deciding-drifted}
+use Rattle.states.proofs.Taking.{never-short, less}
 use Rattle.telegram.proofs.normaliser.metric.Statement.{statement}
 use Rattle.telegram.proofs.normaliser.metric.Tie as tie
 

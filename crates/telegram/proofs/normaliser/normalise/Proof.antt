@@ -1,7 +1,7 @@
 -- `telegram::normaliser::normalise` meets its contract: room, then the check's refusal as it stands; only what it accepted is told. Assumes nothing.
 use borrow.Author.Needs.{needs}
 use denote.Ref.{now}
-use Rattle.telegram.proofs.Normalising.{normalises-roomless, normalises-refused, normalises-accepted, tellable}
+use Rattle.states.proofs.Normalising.{normalises-roomless, normalises-refused, normalises-accepted, tellable}
 use Rattle.telegram.proofs.normaliser.normalise.Statement.{statement}
 use Rattle.telegram.proofs.normaliser.normalise.Tie as tie
 

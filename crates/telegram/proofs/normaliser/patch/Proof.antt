@@ -6,10 +6,10 @@ use native.Mathlib.Omega.{arith}
 use borrow.Author.Needs.{needs}
 use Rattle.bits.proofs.Bytes.{below-known}
 use Rattle.distance.specs.declared.Scale.the-variants.{Tenths}
-use Rattle.telegram.proofs.Drifting.{further}
-use Rattle.telegram.proofs.Quieting.{tells-drifted}
-use Rattle.telegram.proofs.Taking.{never-short, less}
-use Rattle.telegram.proofs.Telling.{Retelling, retelling-first, size-kept, sendable, tells-all, along-then, tells-on, tells-same-value}
+use Rattle.states.proofs.Drifting.{further}
+use Rattle.states.proofs.Quieting.{tells-drifted}
+use Rattle.states.proofs.Taking.{never-short, less}
+use Rattle.states.proofs.Telling.{Retelling, retelling-first, size-kept, sendable, tells-all, along-then, tells-on, tells-same-value}
 use Rattle.telegram.proofs.normaliser.patch.Statement.{statement}
 use Rattle.telegram.proofs.normaliser.patch.Tie as tie
 

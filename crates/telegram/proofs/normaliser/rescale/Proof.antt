@@ -1,7 +1,7 @@
 -- `telegram::normaliser::rescale` meets its contract: in metres it stays, and else the look ahead decides. Assumes nothing.
 use mathlib.Core.Path.{_∙_, sym}
 use borrow.Author.Needs.{needs}
-use Rattle.telegram.proofs.Retelling.{rescaled-already, rescaled-metres, rescaled-kept}
+use Rattle.states.proofs.Retelling.{rescaled-already, rescaled-metres, rescaled-kept}
 use Rattle.telegram.proofs.normaliser.rescale.Statement.{statement}
 use Rattle.telegram.proofs.normaliser.rescale.Tie as tie
 

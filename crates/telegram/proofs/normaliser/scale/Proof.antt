@@ -2,7 +2,7 @@
 use mathlib.Core.Path.{_∙_, sym}
 use native.Mathlib.Omega.{arith}
 use borrow.Author.Needs.{needs}
-use Rattle.telegram.proofs.Distances.{scaled-number}
+use Rattle.states.proofs.Distances.{scaled-number}
 use Rattle.telegram.proofs.normaliser.scale.Statement.{statement}
 use Rattle.telegram.proofs.normaliser.scale.Tie as tie
 

@@ -1,6 +1,6 @@
 -- `telegram::normaliser::tell` meets its contract: what is patched is a copy of the telegram. Assumes nothing.
 use borrow.Author.Needs.{needs}
-use Rattle.telegram.proofs.Telling.{fits-in, patchable, told-over}
+use Rattle.states.proofs.Telling.{fits-in, patchable, told-over}
 use Rattle.telegram.proofs.normaliser.tell.Statement.{statement}
 use Rattle.telegram.proofs.normaliser.tell.Tie as tie
 

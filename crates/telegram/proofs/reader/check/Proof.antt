@@ -5,8 +5,8 @@ use borrow.Author.Tests.{not-true, not-false}
 use borrow.Author.Needs.{needs}
 use denote.Ref.{now}
 use Rattle.format.specs.Rules.{paper}
-use Rattle.telegram.specs.Reader.{answerOf}
-use Rattle.telegram.proofs.Checking.{sized-is, checked-size, checked-padding, checked-fields}
+use Rattle.states.specs.Reader.{answerOf}
+use Rattle.states.proofs.Checking.{sized-is, checked-size, checked-padding, checked-fields}
 use Rattle.telegram.proofs.reader.check.Statement.{statement}
 use Rattle.telegram.proofs.reader.check.Tie as tie
 

@@ -6,7 +6,7 @@ use borrow.Author.Needs.{needs}
 use denote.Ref.{now}
 use lib.ListN.{length}
 use Rattle.bits.proofs.Fields.{taken, take-whole}
-use Rattle.telegram.proofs.Scanning.{rest-is, never-short}
+use Rattle.states.proofs.Scanning.{rest-is, never-short}
 use Rattle.telegram.proofs.reader.clear.Statement.{statement}
 use Rattle.telegram.proofs.reader.clear.Tie as tie
 

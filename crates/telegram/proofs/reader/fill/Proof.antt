@@ -4,9 +4,9 @@ use Prim.Native.Nat.{_-_}
 use native.Mathlib.Omega.{arith}
 use borrow.Author.Needs.{needs}
 use lib.ListN.{length-set}
-use Rattle.telegram.proofs.Filling.{Going, going-first, in-out, fills, goes-further}
-use Rattle.telegram.proofs.Taking.{never-short, less}
-use Rattle.telegram.proofs.Runs.{low}
+use Rattle.states.proofs.Filling.{Going, going-first, in-out, fills, goes-further}
+use Rattle.states.proofs.Taking.{never-short, less}
+use Rattle.states.proofs.Runs.{low}
 use Rattle.telegram.proofs.reader.fill.Statement.{statement}
 use Rattle.telegram.proofs.reader.fill.Tie as tie
 

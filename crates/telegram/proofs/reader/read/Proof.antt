@@ -1,7 +1,7 @@
 -- `telegram::reader::read` meets its contract: room, then the check's answer; only what it accepted is stored. Assumes nothing.
 use borrow.Author.Needs.{needs}
 use denote.Ref.{now}
-use Rattle.telegram.proofs.Checking.{reads-roomless, reads-refused, reads-accepted, fillable}
+use Rattle.states.proofs.Checking.{reads-roomless, reads-refused, reads-accepted, fillable}
 use Rattle.telegram.proofs.reader.read.Statement.{statement}
 use Rattle.telegram.proofs.reader.read.Tie as tie
 

@@ -1,293 +1,48 @@
--- `telegram::reader::scan` meets its contract. The loop's invariant, `Scans`: what the definition answers from the start is what it answers
--- from here, after the entries so far. The measure is how many bits are left. Assumes nothing.
-use mathlib.Core.Logic.{⊎-elim}
-use mathlib.Core.Path.{refl, sym, ap, _∙_}
-use Prim.Native.Nat.{_-_}
-use native.Mathlib.Omega.{arith}
+-- `telegram::reader::scan` meets its contract: the loop goes on from behind the header, or from its first field. Assumes nothing.
+use mathlib.Core.Path.{refl}
 use borrow.Author.Needs.{needs}
-use Rattle.telegram.specs.Reader.{answerOf}
-use Rattle.telegram.proofs.Drifting.{further}
-use Rattle.telegram.proofs.Fronting.{scans-fronted}
-use Rattle.telegram.proofs.Heading.{head-id, head-dir, scans-headed, less-headed}
-use Rattle.telegram.proofs.Scanning.{Scans, scans-first, scans-here, scans-drifted, scans-slight, less-slight, scans-on, fits, less, ends-short, ends-broken, ends-well, ends-trailing}
+use Rattle.states.proofs.Fronting.{scans-fronted}
+use Rattle.states.proofs.Scanning.{scans-first, scans-here}
 use Rattle.telegram.proofs.reader.scan.Statement.{statement}
 use Rattle.telegram.proofs.reader.scan.Tie as tie
 
-abbrev Inv-loop : tie.InvT-loop
-Inv-loop s n rows seen₀ met₀ st₀ count₀ seen met st count = Scans s n rows seen met st (record { at = st .at }) count
-
-abbrev μ-loop : tie.MeasureT-loop
-μ-loop s n rows seen₀ met₀ st₀ count₀ seen met st count = n - st .at
-
-rows-requires : tie.Need-rows-requires Inv-loop μ-loop
+rows-requires : tie.Need-rows-requires
 rows-requires c κs = search needs
 
-begin-requires : tie.Need-begin-requires Inv-loop μ-loop
-begin-requires c κs = search needs
-
--- the header at once, or from its first field on
-
-header-requires : tie.Need-header-requires Inv-loop μ-loop
+header-requires : tie.Need-header-requires
 header-requires c κs = search needs
 
-enum-known-after : tie.Need-enum-known-after Inv-loop μ-loop
+enum-known-after : tie.Need-enum-known-after
 enum-known-after c = search needs
 
-enum-told : tie.Need-enum-told Inv-loop μ-loop
+walk-requires : tie.Need-walk-requires
+walk-requires c κs = scans-fronted _ _ _ _ (c .before .before .before .before .before .before .before .before .pre .0) (c .before .before .before .before .before .before .before .before .pre .1) (c .before .before .before .before .before .before .rows .ensures) refl (rw (c .before .before .before .after .given .1) at (c .before .before .before .before .before .header .ensures))
+
+enum-told : tie.Need-enum-told
 enum-told c = search needs
 
-loop-holds : tie.Need-loop-holds Inv-loop μ-loop
-loop-holds c =
-    let a = c .before .before .before .before .before .pre in
-    ⊎-elim (λ w. rw (w .3, w .4) (scans-fronted _ _ _ _ (a .0) (a .1) (c .before .before .before .rows .ensures) refl (rw (w .1 .given .1) at (c .before .header .ensures))))
-    (λ w. rw (w .2, w .3) (scans-here (scans-first (a .0) (a .1) (c .before .before .before .rows .ensures) refl (c .before .before .begin .ensures)))) (c .match .came)
+begin-requires : tie.Need-begin-requires
+begin-requires c κs = search needs
 
--- what no rule reads
+walk-requires-2 : tie.Need-walk-requires-2
+walk-requires-2 c κs = scans-here (scans-first (c .before .before .before .before .before .before .before .before .pre .0) (c .before .before .before .before .before .before .before .before .pre .1) (c .before .before .before .before .before .before .rows .ensures) refl (c .begin .ensures))
 
-drift-requires : tie.Need-drift-requires Inv-loop μ-loop
-drift-requires c κs = let d = c .before .loop .inv .drives in (d .table, d .sound .tidy)
+returns : tie.Need-returns
+returns c = search needs
 
-add-count : tie.Need-add-count Inv-loop μ-loop
-add-count c =
-    let i = scans-drifted (c .before .before .before .before .before .before .loop .inv) (c .before .before .before .before .drift .ensures) in
-    omega (arith, i .few, i .within, i .low)
-
--- a packet's head
-
-slice-aggregate-head : tie.Need-slice-aggregate-head Inv-loop μ-loop
-slice-aggregate-head c = sym (c .before .before .before .before .before .before .before .before .before .before .loop .inv .drives .long)
-
-head-requires : tie.Need-head-requires Inv-loop μ-loop
-head-requires c κs =
-    let i = scans-drifted (c .before .before .before .before .before .before .before .before .before .before .loop .inv) (c .before .before .before .before .before .before .before .before .drift .ensures) in
-    record { table = i .drives .table; inside = omega (arith, i .drives .noted, i .within, i .low, i .drives .long) }
-
-enum-known-after-2 : tie.Need-enum-known-after-2 Inv-loop μ-loop
-enum-known-after-2 c = search needs
-
-slice-aggregate-note : tie.Need-slice-aggregate-note Inv-loop μ-loop
-slice-aggregate-note c = sym (c .before .before .before .before .before .before .before .before .before .before .before .before .before .before .before .loop .inv .drives .long)
-
-note-requires : tie.Need-note-requires Inv-loop μ-loop
-note-requires c κs =
-    let i = scans-drifted (c .before .before .before .before .before .before .before .before .before .before .before .before .before .before .before .loop .inv) (c .before .before .before .before .before .before .before .before .before .before .before .before .before .drift .ensures) in
-    let o = rw (c .before .before .after2 .given .1) at (c .before .before .before .before .head .ensures) in
-    record {
-      inside = omega (arith, i .drives .noted, i .within, i .low, i .drives .long);
-      small = head-id i (c .before .before .before .before .before .before .before .if1 .taken) o;
-      fits = λ e. head-dir i (c .before .before .before .before .before .before .before .if1 .taken) o;
-    }
-
-add-count-2 : tie.Need-add-count-2 Inv-loop μ-loop
-add-count-2 c =
-    let i = scans-drifted (c .before .before .before .before .before .before .before .before .before .before .before .before .before .before .before .before .before .loop .inv) (c .before .before .before .before .before .before .before .before .before .before .before .before .before .before .before .drift .ensures) in
-    omega (arith, i .few, i .within, i .low)
-
-loop-less : tie.Need-loop-less Inv-loop μ-loop
-loop-less c =
-    let i = scans-drifted (c .before .before .before .before .before .before .before .before .before .before .before .before .before .before .before .before .before .loop .inv) (c .before .before .before .before .before .before .before .before .before .before .before .before .before .before .before .drift .ensures) in
-    let l = less-headed i (c .before .before .before .before .before .before .before .before .before .if1 .taken) (rw (c .before .before .before .before .after2 .given .1) at (c .before .before .before .before .before .before .head .ensures)) in
-    omega (arith, further (c .before .before .before .before .before .before .before .before .before .before .before .before .before .before .before .drift .ensures))
-
-loop-again : tie.Need-loop-again Inv-loop μ-loop
-loop-again c =
-    let i = scans-drifted (c .before .before .before .before .before .before .before .before .before .before .before .before .before .before .before .before .before .loop .inv) (c .before .before .before .before .before .before .before .before .before .before .before .before .before .before .before .drift .ensures) in
-    scans-headed i (c .before .before .before .before .before .before .before .before .before .if1 .taken) (rw (c .before .before .before .before .after2 .given .1) at (c .before .before .before .before .before .before .head .ensures)) (c .before .note .ensures)
-
-enum-told-2 : tie.Need-enum-told-2 Inv-loop μ-loop
-enum-told-2 c = search needs
-
--- a field
-
-width-requires : tie.Need-width-requires Inv-loop μ-loop
-width-requires c κs =
-    let i = scans-drifted (c .before .before .before .before .before .before .before .before .before .loop .inv) (c .before .before .before .before .before .before .before .drift .ensures) in
-    record { table = i .drives .table; inside = i .drives .sound .tidy .inside }
-
-take-requires : tie.Need-take-requires Inv-loop μ-loop
-take-requires c κs = search needs
-
-enum-known-v : tie.Need-enum-known-v Inv-loop μ-loop
-enum-known-v c = search needs
-
-enum-told-3 : tie.Need-enum-told-3 Inv-loop μ-loop
-enum-told-3 c = search needs
-
-place-requires : tie.Need-place-requires Inv-loop μ-loop
-place-requires c κs = search needs
-
-refuse-requires : tie.Need-refuse-requires Inv-loop μ-loop
-refuse-requires c κs = search needs
-
-returns : tie.Need-returns Inv-loop μ-loop
-returns c =
-    let i = scans-drifted (c .before .before .before .before .before .before .before .before .before .before .before .before .before .before .before .loop .inv) (c .before .before .before .before .before .before .before .before .before .before .before .before .before .drift .ensures) in
-    c .refuse .ensures ∙ sym (ap answerOf (ends-short i (c .before .before .before .before .before .width .ensures) (c .before .before .before .before .take .ensures) (c .before .before .enum-told3 .given .1) (c .before .place .ensures)))
-
--- a value of which nothing is kept
-
-ease-requires : tie.Need-ease-requires Inv-loop μ-loop
-ease-requires c κs =
-    let i = scans-drifted (c .before .before .before .before .before .before .before .before .before .before .before .before .before .before .before .loop .inv) (c .before .before .before .before .before .before .before .before .before .before .before .before .before .drift .ensures) in
-    (i .drives .table, i .drives .sound .tidy)
-
-enum-known-u : tie.Need-enum-known-u Inv-loop μ-loop
-enum-known-u c = search needs
-
-add-count-3 : tie.Need-add-count-3 Inv-loop μ-loop
-add-count-3 c =
-    let i = scans-drifted (c .before .before .before .before .before .before .before .before .before .before .before .before .before .before .before .before .before .before .before .loop .inv) (c .before .before .before .before .before .before .before .before .before .before .before .before .before .before .before .before .before .drift .ensures) in
-    omega (arith, i .few, i .within, i .low)
-
-loop-less-2 : tie.Need-loop-less-2 Inv-loop μ-loop
-loop-less-2 c =
-    let i = scans-drifted (c .before .before .before .before .before .before .before .before .before .before .before .before .before .before .before .before .before .before .before .loop .inv) (c .before .before .before .before .before .before .before .before .before .before .before .before .before .before .before .before .before .drift .ensures) in
-    let q = rw (c .before .u .given .1) at (c .before .before .before .ease .ensures) in
-    let l = less-slight i (c .before .before .before .before .before .before .before .before .before .width .ensures) (c .before .before .before .before .before .before .before .before .take .ensures) (c .before .before .before .before .before .before .v .given .1) (q .0) (q .1) (q .2) in
-    omega (arith, further (c .before .before .before .before .before .before .before .before .before .before .before .before .before .before .before .before .before .drift .ensures))
-
-loop-again-2 : tie.Need-loop-again-2 Inv-loop μ-loop
-loop-again-2 c =
-    let i = scans-drifted (c .before .before .before .before .before .before .before .before .before .before .before .before .before .before .before .before .before .before .before .loop .inv) (c .before .before .before .before .before .before .before .before .before .before .before .before .before .before .before .before .before .drift .ensures) in
-    let q = rw (c .before .u .given .1) at (c .before .before .before .ease .ensures) in
-    scans-here (scans-slight i (c .before .before .before .before .before .before .before .before .before .width .ensures) (c .before .before .before .before .before .before .before .before .take .ensures) (c .before .before .before .before .before .before .v .given .1) (q .0) (q .1) (q .2))
-
-enum-told-4 : tie.Need-enum-told-4 Inv-loop μ-loop
-enum-told-4 c = search needs
-
--- any other
-
-slice-aggregate-turn : tie.Need-slice-aggregate-turn Inv-loop μ-loop
-slice-aggregate-turn c = sym (c .before .before .before .before .before .before .before .before .before .before .before .before .before .before .before .before .before .before .before .before .loop .inv .drives .long)
-
-turn-requires : tie.Need-turn-requires Inv-loop μ-loop
-turn-requires c κs =
-    let i = scans-drifted (c .before .before .before .before .before .before .before .before .before .before .before .before .before .before .before .before .before .before .before .before .loop .inv) (c .before .before .before .before .before .before .before .before .before .before .before .before .before .before .before .before .before .before .drift .ensures) in
-    record {
-      stepping = record { table = i .drives .table; sound = i .drives .sound; low = omega (arith, i .within, i .low); fits = fits i (c .before .before .before .before .before .before .before .before .before .before .width .ensures) (c .before .before .before .before .before .before .before .before .before .take .ensures) (c .before .before .before .before .before .before .before .v .given .1) };
-      inside = omega (arith, i .drives .noted, i .within, i .low, i .drives .long);
-    }
-
-enum-known-kind : tie.Need-enum-known-kind Inv-loop μ-loop
-enum-known-kind c = search needs
-
-place-requires-2 : tie.Need-place-requires-2 Inv-loop μ-loop
-place-requires-2 c κs = search needs
-
-refuse-requires-2 : tie.Need-refuse-requires-2 Inv-loop μ-loop
-refuse-requires-2 c κs = search needs
-
-returns-2 : tie.Need-returns-2 Inv-loop μ-loop
-returns-2 c =
-    let i = scans-drifted (c .before .before .before .before .before .before .before .before .before .before .before .before .before .before .before .before .before .before .before .before .before .before .before .before .before .before .loop .inv) (c .before .before .before .before .before .before .before .before .before .before .before .before .before .before .before .before .before .before .before .before .before .before .before .before .drift .ensures) in
-    c .refuse2 .ensures ∙ sym (ap answerOf (ends-broken i (c .before .before .before .before .before .before .before .before .before .before .before .before .before .before .before .before .width .ensures) (c .before .before .before .before .before .before .before .before .before .before .before .before .before .before .before .take .ensures) (c .before .before .before .before .before .before .before .before .before .before .before .before .before .v .given .1) (c .before .before .before .before .before .turn .ensures) (c .before .before .before .kind .given .1) (c .before .place2 .ensures)))
-
-enum-told-5 : tie.Need-enum-told-5 Inv-loop μ-loop
-enum-told-5 c = search needs
-
-add-t43 : tie.Need-add-t43 Inv-loop μ-loop
-add-t43 c =
-    let i = scans-drifted (c .before .before .before .before .before .before .before .before .before .before .before .before .before .before .before .before .before .before .before .before .before .before .before .before .before .loop .inv) (c .before .before .before .before .before .before .before .before .before .before .before .before .before .before .before .before .before .before .before .before .before .before .before .drift .ensures) in
-    omega (arith, i .few, i .within, i .low)
-
-returns-3 : tie.Need-returns-3 Inv-loop μ-loop
-returns-3 c =
-    let i = scans-drifted (c .before .before .before .before .before .before .before .before .before .before .before .before .before .before .before .before .before .before .before .before .before .before .before .before .before .loop .inv) (c .before .before .before .before .before .before .before .before .before .before .before .before .before .before .before .before .before .before .before .before .before .before .before .drift .ensures) in
-    ends-well i (c .before .before .before .before .before .before .before .before .before .before .before .before .before .before .before .width .ensures) (c .before .before .before .before .before .before .before .before .before .before .before .before .before .before .take .ensures) (c .before .before .before .before .before .before .before .before .before .before .before .before .v .given .1) (c .before .before .before .before .turn .ensures) (c .before .before .enum-told5 .given .1) (c .if2 .taken)
-
-place-requires-3 : tie.Need-place-requires-3 Inv-loop μ-loop
-place-requires-3 c κs = search needs
-
-refuse-requires-3 : tie.Need-refuse-requires-3 Inv-loop μ-loop
-refuse-requires-3 c κs = search needs
-
-returns-4 : tie.Need-returns-4 Inv-loop μ-loop
-returns-4 c =
-    let i = scans-drifted (c .before .before .before .before .before .before .before .before .before .before .before .before .before .before .before .before .before .before .before .before .before .before .before .before .before .before .before .loop .inv) (c .before .before .before .before .before .before .before .before .before .before .before .before .before .before .before .before .before .before .before .before .before .before .before .before .before .drift .ensures) in
-    c .refuse3 .ensures
-    ∙ sym (ap answerOf (ends-trailing i (c .before .before .before .before .before .before .before .before .before .before .before .before .before .before .before .before .before .width .ensures) (c .before .before .before .before .before .before .before .before .before .before .before .before .before .before .before .before .take .ensures) (c .before .before .before .before .before .before .before .before .before .before .before .before .before .before .v .given .1) (c .before .before .before .before .before .before .turn .ensures) (c .before .before .before .before .enum-told5 .given .1) (c .before .before .if2 .left) (c .before .place3 .ensures)))
-
-enum-known-after-3 : tie.Need-enum-known-after-3 Inv-loop μ-loop
-enum-known-after-3 c = search needs
-
-slice-aggregate-keep : tie.Need-slice-aggregate-keep Inv-loop μ-loop
-slice-aggregate-keep c = sym (c .before .before .before .before .before .before .before .before .before .before .before .before .before .before .before .before .before .before .before .before .before .before .before .before .before .before .loop .inv .drives .long)
-
-keep-requires : tie.Need-keep-requires Inv-loop μ-loop
-keep-requires c κs =
-    let i = scans-drifted (c .before .before .before .before .before .before .before .before .before .before .before .before .before .before .before .before .before .before .before .before .before .before .before .before .before .before .loop .inv) (c .before .before .before .before .before .before .before .before .before .before .before .before .before .before .before .before .before .before .before .before .before .before .before .before .drift .ensures) in
-    record {
-      stepping = record { table = i .drives .table; sound = i .drives .sound; low = omega (arith, i .within, i .low); fits = fits i (c .before .before .before .before .before .before .before .before .before .before .before .before .before .before .before .before .width .ensures) (c .before .before .before .before .before .before .before .before .before .before .before .before .before .before .before .take .ensures) (c .before .before .before .before .before .before .before .before .before .before .before .before .before .v .given .1) };
-      inside = omega (arith, i .drives .noted, i .within, i .low, i .drives .long);
-    }
-
-add-count-4 : tie.Need-add-count-4 Inv-loop μ-loop
-add-count-4 c =
-    let i = scans-drifted (c .before .before .before .before .before .before .before .before .before .before .before .before .before .before .before .before .before .before .before .before .before .before .before .before .before .before .before .before .loop .inv) (c .before .before .before .before .before .before .before .before .before .before .before .before .before .before .before .before .before .before .before .before .before .before .before .before .before .before .drift .ensures) in
-    omega (arith, i .few, i .within, i .low)
-
-loop-less-3 : tie.Need-loop-less-3 Inv-loop μ-loop
-loop-less-3 c =
-    let i = scans-drifted (c .before .before .before .before .before .before .before .before .before .before .before .before .before .before .before .before .before .before .before .before .before .before .before .before .before .before .before .before .loop .inv) (c .before .before .before .before .before .before .before .before .before .before .before .before .before .before .before .before .before .before .before .before .before .before .before .before .before .before .drift .ensures) in
-    let l = less i (c .before .before .before .before .before .before .before .before .before .before .before .before .before .before .before .before .before .before .width .ensures) (c .before .before .before .before .before .before .before .before .before .before .before .before .before .before .before .before .before .take .ensures) (c .before .before .before .before .before .before .before .before .before .before .before .before .before .before .before .v .given .1) (c .before .before .before .before .before .before .before .turn .ensures) (c .before .before .before .before .before .after3 .given .1) in
-    omega (arith, further (c .before .before .before .before .before .before .before .before .before .before .before .before .before .before .before .before .before .before .before .before .before .before .before .before .before .before .drift .ensures))
-
-loop-again-3 : tie.Need-loop-again-3 Inv-loop μ-loop
-loop-again-3 c =
-    let i = scans-drifted (c .before .before .before .before .before .before .before .before .before .before .before .before .before .before .before .before .before .before .before .before .before .before .before .before .before .before .before .before .loop .inv) (c .before .before .before .before .before .before .before .before .before .before .before .before .before .before .before .before .before .before .before .before .before .before .before .before .before .before .drift .ensures) in
-    scans-here (scans-on i (c .before .before .before .before .before .before .before .before .before .before .before .before .before .before .before .before .before .before .width .ensures) (c .before .before .before .before .before .before .before .before .before .before .before .before .before .before .before .before .before .take .ensures) (c .before .before .before .before .before .before .before .before .before .before .before .before .before .before .before .v .given .1) (c .before .before .before .before .before .before .before .turn .ensures) (c .before .before .before .before .before .after3 .given .1) (c .before .keep .ensures))
+returns-2 : tie.Need-returns-2
+returns-2 c = search needs
 
 pub scan-spec : {M : Type 1} → statement M
 scan-spec =
     tie.close
     (tie.spec
-    Inv-loop
-    μ-loop
     rows-requires
-    begin-requires
     header-requires
     enum-known-after
+    walk-requires
     enum-told
-    loop-holds
-    drift-requires
-    add-count
-    slice-aggregate-head
-    head-requires
-    enum-known-after-2
-    slice-aggregate-note
-    note-requires
-    add-count-2
-    loop-less
-    loop-again
-    enum-told-2
-    width-requires
-    take-requires
-    enum-known-v
-    enum-told-3
-    place-requires
-    refuse-requires
+    begin-requires
+    walk-requires-2
     returns
-    ease-requires
-    enum-known-u
-    add-count-3
-    loop-less-2
-    loop-again-2
-    enum-told-4
-    slice-aggregate-turn
-    turn-requires
-    enum-known-kind
-    place-requires-2
-    refuse-requires-2
-    returns-2
-    enum-told-5
-    add-t43
-    returns-3
-    place-requires-3
-    refuse-requires-3
-    returns-4
-    enum-known-after-3
-    slice-aggregate-keep
-    keep-requires
-    add-count-4
-    loop-less-3
-    loop-again-3)
+    returns-2)

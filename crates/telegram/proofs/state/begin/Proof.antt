@@ -1,5 +1,5 @@
 -- `telegram::state::begin` meets its contract. Assumes nothing.
-use Rattle.telegram.proofs.Fronting.{first-begins}
+use Rattle.states.proofs.Fronting.{first-begins}
 use Rattle.telegram.proofs.state.begin.Statement.{statement}
 use Rattle.telegram.proofs.state.begin.Tie as tie
 

@@ -3,7 +3,7 @@ use mathlib.Core.Path.{_∙_}
 use native.Mathlib.Omega.{arith}
 use borrow.Author.Needs.{needs}
 use Rattle.format.proofs.Rows.{next-in}
-use Rattle.telegram.proofs.Advancing.{advances-next}
+use Rattle.states.proofs.Advancing.{advances-next}
 use Rattle.telegram.proofs.todo.advance.Statement.{statement}
 use Rattle.telegram.proofs.todo.advance.Tie as tie
 

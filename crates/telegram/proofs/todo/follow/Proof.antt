@@ -3,7 +3,7 @@
 use mathlib.Core.Logic.{⊎-elim}
 use native.Mathlib.Omega.{arith}
 use borrow.Author.Needs.{needs}
-use Rattle.telegram.proofs.Moves.{follows-next, follows-jump}
+use Rattle.states.proofs.Moves.{follows-next, follows-jump}
 use Rattle.telegram.proofs.todo.follow.Statement.{statement}
 use Rattle.telegram.proofs.todo.follow.Tie as tie
 

@@ -3,7 +3,7 @@
 -- Assumes nothing.
 use native.Mathlib.Omega.{arith}
 use borrow.Author.Needs.{needs}
-use Rattle.telegram.proofs.Advancing.{advances-over, advances-to, advances-inside, advances-on}
+use Rattle.states.proofs.Advancing.{advances-over, advances-to, advances-inside, advances-on}
 use Rattle.telegram.proofs.todo.further.Statement.{statement}
 use Rattle.telegram.proofs.todo.further.Tie as tie
 

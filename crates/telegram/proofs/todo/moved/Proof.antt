@@ -5,7 +5,7 @@ use mathlib.Core.Path.{refl}
 use native.Mathlib.Omega.{arith}
 use borrow.Author.Needs.{needs}
 use Rattle.format.proofs.Rows.{act-small}
-use Rattle.telegram.proofs.Moves.{moves-on, moves-past, moves-in}
+use Rattle.states.proofs.Moves.{moves-on, moves-past, moves-in}
 use Rattle.telegram.proofs.todo.moved.Statement.{statement}
 use Rattle.telegram.proofs.todo.moved.Tie as tie
 

@@ -1,11 +1,11 @@
 -- `telegram::todo::turned` meets its contract: a group's end jumps to the row that repeats the group, whose next row is the group again and
 -- whose jump is what follows its last.
 -- Assumes nothing.
-use mathlib.Core.Path.{refl}
+use mathlib.Core.Path.{refl, sym, _∙_}
 use native.Mathlib.Omega.{arith}
 use borrow.Author.Needs.{needs}
 use Rattle.format.proofs.Rows.{jump-in}
-use Rattle.telegram.proofs.Moves.{turns-none, turns-out, turns-again}
+use Rattle.states.proofs.Moves.{turns-none, turns-out, turns-again}
 use Rattle.telegram.proofs.todo.turned.Statement.{statement}
 use Rattle.telegram.proofs.todo.turned.Tie as tie
 
@@ -21,7 +21,7 @@ jump-requires c κs = search needs
 returns-2 : tie.Need-returns-2
 returns-2 c =
     let a = c .before .before .before .before in
-    turns-none (a .args .t) _ (a .pre .inside) (cc) (c .before .jump .ensures) (c .if2 .taken)
+    turns-none (a .args .t) _ (a .pre .inside) (sym (c .before .before .before .act .ensures) ∙ c .before .before .if1 .left) (c .before .jump .ensures) (c .if2 .taken)
 
 jump-requires-2 : tie.Need-jump-requires-2
 jump-requires-2 c κs =
@@ -32,7 +32,7 @@ returns-3 : tie.Need-returns-3
 returns-3 c =
     let d = c .before .before .before in
     let a = d .before .before .before .before in
-    turns-out (a .args .t) _ (a .pre .inside) (cc) (d .before .jump .ensures) (d .if2 .left) _ (c .before .if3 .taken) (c .jump2 .ensures)
+    turns-out (a .args .t) _ (a .pre .inside) (sym (d .before .before .before .act .ensures) ∙ d .before .before .if1 .left) (d .before .jump .ensures) (d .if2 .left) _ (c .before .if3 .taken) (c .jump2 .ensures)
 
 add-t8 : tie.Need-add-t8
 add-t8 c =
@@ -46,7 +46,7 @@ returns-4 : tie.Need-returns-4
 returns-4 c =
     let d = c .before .before .before in
     let a = d .before .before .before .before in
-    turns-again (a .args .t) _ (a .pre .inside) (cc) (d .before .jump .ensures) (d .if2 .left) _ (c .before .if3 .left) refl
+    turns-again (a .args .t) _ (a .pre .inside) (sym (d .before .before .before .act .ensures) ∙ d .before .before .if1 .left) (d .before .jump .ensures) (d .if2 .left) _ (c .before .if3 .left) refl
 
 pub turned-spec : {M : Type 1} → statement M
 turned-spec =

@@ -1,8 +1,8 @@
 -- Each way to a return tells the value's size, the level, and whether the packet collides or the value is that of its ETCS-44, which is all that the rule asks. Assumes nothing.
 use mathlib.Core.Path.{_∙_, ap}
 use borrow.Author.Needs.{needs}
-use Rattle.telegram.specs.Machine.{contextOf, levelOf}
-use Rattle.telegram.proofs.Senses.{direction-high, direction-header, direction-twice, direction-once, direction-same, direction-other}
+use Rattle.states.specs.Machine.{contextOf, levelOf}
+use Rattle.states.proofs.Senses.{direction-high, direction-header, direction-twice, direction-once, direction-same, direction-other}
 use Rattle.telegram.proofs.verdict.direction.Statement.{statement}
 use Rattle.telegram.proofs.verdict.direction.Tie as tie
 

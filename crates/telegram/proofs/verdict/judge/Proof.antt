@@ -6,8 +6,8 @@ use borrow.Author.Needs.{needs}
 use Rattle.format.specs.Rules.{unless}
 use Rattle.format.specs.Table.{fieldAt}
 use Rattle.format.specs.declared.Kind.the-variants.{Value}
-use Rattle.telegram.specs.Machine.{contextOf}
-use Rattle.telegram.proofs.Senses.{rule-direction, judge-free, judge-total, judge-radio, judge-packet, judge-user, judge-direction, judge-range, total-under, total-fits}
+use Rattle.states.specs.Machine.{contextOf}
+use Rattle.states.proofs.Senses.{rule-direction, judge-free, judge-total, judge-radio, judge-packet, judge-user, judge-direction, judge-range, total-under, total-fits}
 use Rattle.telegram.proofs.verdict.judge.Statement.{statement}
 use Rattle.telegram.proofs.verdict.judge.Tie as tie
 

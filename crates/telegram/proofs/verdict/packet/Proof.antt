@@ -1,7 +1,7 @@
 -- The end mark is allowed, and any other value is of the tables just if its packet begins in a row other than 0. Assumes nothing.
 use mathlib.Core.Path.{_∙_, sym}
 use borrow.Author.Needs.{needs}
-use Rattle.telegram.proofs.Senses.{etcs-row, packet-mark, packet-none, packet-some}
+use Rattle.states.proofs.Senses.{etcs-row, packet-mark, packet-none, packet-some}
 use Rattle.telegram.proofs.verdict.packet.Statement.{statement}
 use Rattle.telegram.proofs.verdict.packet.Tie as tie
 

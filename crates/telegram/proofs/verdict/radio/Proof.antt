@@ -4,7 +4,7 @@ use mathlib.Core.Bool.{false}
 use Prim.Native.Nat.{_≤_, _-_}
 use native.Mathlib.Omega.{arith}
 use Rattle.format.specs.Rules.{radioFrom}
-use Rattle.telegram.proofs.Places.{full-at, digit-at, bad-digit, late-digit, all-read}
+use Rattle.states.proofs.Places.{full-at, digit-at, bad-digit, late-digit, all-read}
 use Rattle.telegram.proofs.verdict.radio.Statement.{statement}
 use Rattle.telegram.proofs.verdict.radio.Tie as tie
 

@@ -4,8 +4,8 @@ use mathlib.Core.Bool.{Bool}
 use native.Mathlib.Omega.{arith}
 use borrow.Author.Needs.{needs}
 use Rattle.format.specs.Table.{fieldAt, lowOf, highOf}
-use Rattle.telegram.specs.Machine.{Ranged}
-use Rattle.telegram.proofs.Senses.{range-in, range-under, range-over}
+use Rattle.states.specs.Machine.{Ranged}
+use Rattle.states.proofs.Senses.{range-in, range-under, range-over}
 use Rattle.telegram.proofs.verdict.ranged.Statement.{statement}
 use Rattle.telegram.proofs.verdict.ranged.Tie as tie
 

@@ -1,7 +1,7 @@
 -- A value is of the tables just if its packet begins in a row other than 0. Assumes nothing.
 use mathlib.Core.Path.{_∙_, sym}
 use borrow.Author.Needs.{needs}
-use Rattle.telegram.proofs.Senses.{ctcs-row, user-none, user-some}
+use Rattle.states.proofs.Senses.{ctcs-row, user-none, user-some}
 use Rattle.telegram.proofs.verdict.user.Statement.{statement}
 use Rattle.telegram.proofs.verdict.user.Tie as tie
 

@@ -1,5 +1,6 @@
 -- `telegram::writer::measure` meets its contract. The loop's invariant, `Measures`: what the definition answers from the start is what it
 -- answers from here, after the entries so far. The measure is how many values are left. Assumes nothing.
+use mathlib.Core.List.{[]}
 use mathlib.Core.Path.{refl, sym, ap, _∙_}
 use Prim.Native.Nat.{_-_}
 use native.Mathlib.Omega.{arith}
@@ -7,9 +8,9 @@ use borrow.Author.Needs.{needs}
 use borrow.Author.Tests.{not-true, not-false}
 use lib.ListN.{length}
 use Rattle.format.specs.Table.{fieldAt}
-use Rattle.telegram.specs.Writer.{sizeOf}
-use Rattle.telegram.proofs.Stepping.{width-in}
-use Rattle.telegram.proofs.Measuring.{Measures, measures-first, measures-on, fits, ends-none, ends-wide, ends-full, ends-broken, ends-well, ends-trailing}
+use Rattle.states.specs.Writer.{sizeOf}
+use Rattle.states.proofs.Stepping.{width-in}
+use Rattle.states.proofs.Measuring.{Measures, measures-first, measures-on, fits, ends-none, ends-wide, ends-full, ends-broken, ends-well, ends-trailing}
 use Rattle.telegram.proofs.writer.measure.Statement.{statement}
 use Rattle.telegram.proofs.writer.measure.Tie as tie
 
@@ -31,15 +32,12 @@ loop-holds c = measures-first (c .before .rows .ensures) refl (c .begin .ensures
 width-requires : tie.Need-width-requires Inv-loop μ-loop
 width-requires c κs = record { table = c .before .before .loop .inv .drives .table; inside = c .before .before .loop .inv .drives .sound .tidy .inside }
 
-place-requires : tie.Need-place-requires Inv-loop μ-loop
-place-requires c κs = search needs
-
-refuse-requires : tie.Need-refuse-requires Inv-loop μ-loop
-refuse-requires c κs = search needs
+refused-requires : tie.Need-refused-requires Inv-loop μ-loop
+refused-requires c κs = search needs
 
 returns : tie.Need-returns Inv-loop μ-loop
 returns c =
-    c .refuse .ensures ∙ sym (ap sizeOf (ends-none (c .before .before .before .before .before .before .loop .inv) (c .before .before .if1 .taken) (c .before .place .ensures)))
+    c .refused .ensures [] ∙ sym (ap sizeOf (ends-none (c .before .before .before .before .before .loop .inv) (c .before .if1 .taken)))
 
 mul-v : tie.Need-mul-v Inv-loop μ-loop
 mul-v c = search needs
@@ -50,31 +48,25 @@ shared-slice-read-v c = omega arith
 fits-requires : tie.Need-fits-requires Inv-loop μ-loop
 fits-requires c κs = search needs
 
-place-requires-2 : tie.Need-place-requires-2 Inv-loop μ-loop
-place-requires-2 c κs = search needs
-
-refuse-requires-2 : tie.Need-refuse-requires-2 Inv-loop μ-loop
-refuse-requires-2 c κs = search needs
+refused-requires-2 : tie.Need-refused-requires-2 Inv-loop μ-loop
+refused-requires-2 c κs = search needs
 
 returns-2 : tie.Need-returns-2 Inv-loop μ-loop
 returns-2 c =
-    c .refuse2 .ensures
-    ∙ sym (ap sizeOf (ends-wide (c .before .before .before .before .before .before .before .before .before .loop .inv) (c .before .before .before .before .before .if1 .left) (c .before .before .before .before .before .before .width .ensures) (sym (c .before .before .before .fits2 .ensures) ∙ not-true _ (c .before .before .if2 .taken)) (c .before .place2 .ensures)))
+    c .refused2 .ensures []
+    ∙ sym (ap sizeOf (ends-wide (c .before .before .before .before .before .before .before .before .loop .inv) (c .before .before .before .before .if1 .left) (c .before .before .before .before .before .width .ensures) (sym (c .before .before .fits2 .ensures) ∙ not-true _ (c .before .if2 .taken))))
 
 add-if3 : tie.Need-add-if3 Inv-loop μ-loop
 add-if3 c =
     let w = width-in (fieldAt (c .before .before .before .before .before .before .before .before .loop .st .todo .node)) in
     omega (arith, c .before .before .before .before .before .before .before .before .loop .inv .low, c .before .before .before .before .before .width .ensures)
 
-place-requires-3 : tie.Need-place-requires-3 Inv-loop μ-loop
-place-requires-3 c κs = search needs
-
-refuse-requires-3 : tie.Need-refuse-requires-3 Inv-loop μ-loop
-refuse-requires-3 c κs = search needs
+refused-requires-3 : tie.Need-refused-requires-3 Inv-loop μ-loop
+refused-requires-3 c κs = search needs
 
 returns-3 : tie.Need-returns-3 Inv-loop μ-loop
 returns-3 c =
-    c .refuse3 .ensures ∙ sym (ap sizeOf (ends-full (c .before .before .before .before .before .before .before .before .before .before .before .loop .inv) (c .before .before .before .before .before .before .before .if1 .left) (c .before .before .before .before .before .before .before .before .width .ensures) (sym (c .before .before .before .before .before .fits2 .ensures) ∙ not-false _ (c .before .before .before .before .if2 .left)) (c .before .before .if3 .taken) (c .before .place3 .ensures)))
+    c .refused3 .ensures [] ∙ sym (ap sizeOf (ends-full (c .before .before .before .before .before .before .before .before .before .before .loop .inv) (c .before .before .before .before .before .before .if1 .left) (c .before .before .before .before .before .before .before .width .ensures) (sym (c .before .before .before .before .fits2 .ensures) ∙ not-false _ (c .before .before .before .if2 .left)) (c .before .if3 .taken)))
 
 slice-aggregate-turn : tie.Need-slice-aggregate-turn Inv-loop μ-loop
 slice-aggregate-turn c = sym (c .before .before .before .before .before .before .before .before .before .before .before .loop .inv .drives .long)
@@ -90,15 +82,12 @@ turn-requires c κs =
 enum-known-kind : tie.Need-enum-known-kind Inv-loop μ-loop
 enum-known-kind c = search needs
 
-place-requires-4 : tie.Need-place-requires-4 Inv-loop μ-loop
-place-requires-4 c κs = search needs
-
-refuse-requires-4 : tie.Need-refuse-requires-4 Inv-loop μ-loop
-refuse-requires-4 c κs = search needs
+refused-requires-4 : tie.Need-refused-requires-4 Inv-loop μ-loop
+refused-requires-4 c κs = search needs
 
 returns-4 : tie.Need-returns-4 Inv-loop μ-loop
 returns-4 c =
-    c .refuse4 .ensures ∙ sym (ap sizeOf (ends-broken (c .before .before .before .before .before .before .before .before .before .before .before .before .before .before .before .before .before .loop .inv) (c .before .before .before .before .before .before .before .before .before .before .before .before .before .if1 .left) (c .before .before .before .before .before .before .before .before .before .before .before .before .before .before .width .ensures) (sym (c .before .before .before .before .before .before .before .before .before .before .before .fits2 .ensures) ∙ not-false _ (c .before .before .before .before .before .before .before .before .before .before .if2 .left)) (c .before .before .before .before .before .before .before .before .if3 .left) (c .before .before .before .before .before .turn .ensures) (c .before .before .before .kind .given .1) (c .before .place4 .ensures)))
+    c .refused4 .ensures [] ∙ sym (ap sizeOf (ends-broken (c .before .before .before .before .before .before .before .before .before .before .before .before .before .before .before .before .loop .inv) (c .before .before .before .before .before .before .before .before .before .before .before .before .if1 .left) (c .before .before .before .before .before .before .before .before .before .before .before .before .before .width .ensures) (sym (c .before .before .before .before .before .before .before .before .before .before .fits2 .ensures) ∙ not-false _ (c .before .before .before .before .before .before .before .before .before .if2 .left)) (c .before .before .before .before .before .before .before .if3 .left) (c .before .before .before .before .turn .ensures) (c .before .before .kind .given .1)))
 
 enum-told : tie.Need-enum-told Inv-loop μ-loop
 enum-told c = search needs
@@ -106,24 +95,21 @@ enum-told c = search needs
 add-if4 : tie.Need-add-if4 Inv-loop μ-loop
 add-if4 c = omega arith
 
-add-t37 : tie.Need-add-t37 Inv-loop μ-loop
-add-t37 c =
+add-t30 : tie.Need-add-t30 Inv-loop μ-loop
+add-t30 c =
     let w = width-in (fieldAt (c .before .before .before .before .before .before .before .before .before .before .before .before .before .before .before .before .loop .st .todo .node)) in
     omega (arith, c .before .before .before .before .before .before .before .before .before .before .before .before .before .before .before .before .loop .inv .low, c .before .before .before .before .before .before .before .before .before .before .before .before .before .width .ensures)
 
 returns-5 : tie.Need-returns-5 Inv-loop μ-loop
 returns-5 c = ends-well (c .before .before .before .before .before .before .before .before .before .before .before .before .before .before .before .before .loop .inv) (c .before .before .before .before .before .before .before .before .before .before .before .before .if1 .left) (c .before .before .before .before .before .before .before .before .before .before .before .before .before .width .ensures) (sym (c .before .before .before .before .before .before .before .before .before .before .fits2 .ensures) ∙ not-false _ (c .before .before .before .before .before .before .before .before .before .if2 .left)) (c .before .before .before .before .before .before .before .if3 .left) (c .before .before .before .before .turn .ensures) (c .before .before .enum-told .given .1) (c .before .if4 .taken)
 
-place-requires-5 : tie.Need-place-requires-5 Inv-loop μ-loop
-place-requires-5 c κs = search needs
-
-refuse-requires-5 : tie.Need-refuse-requires-5 Inv-loop μ-loop
-refuse-requires-5 c κs = search needs
+refused-requires-5 : tie.Need-refused-requires-5 Inv-loop μ-loop
+refused-requires-5 c κs = search needs
 
 returns-6 : tie.Need-returns-6 Inv-loop μ-loop
 returns-6 c =
-    c .refuse5 .ensures
-    ∙ sym (ap sizeOf (ends-trailing (c .before .before .before .before .before .before .before .before .before .before .before .before .before .before .before .before .before .loop .inv) (c .before .before .before .before .before .before .before .before .before .before .before .before .before .if1 .left) (c .before .before .before .before .before .before .before .before .before .before .before .before .before .before .width .ensures) (sym (c .before .before .before .before .before .before .before .before .before .before .before .fits2 .ensures) ∙ not-false _ (c .before .before .before .before .before .before .before .before .before .before .if2 .left)) (c .before .before .before .before .before .before .before .before .if3 .left) (c .before .before .before .before .before .turn .ensures) (c .before .before .before .enum-told .given .1) (c .before .before .if4 .left) (c .before .place5 .ensures)))
+    c .refused5 .ensures []
+    ∙ sym (ap sizeOf (ends-trailing (c .before .before .before .before .before .before .before .before .before .before .before .before .before .before .before .before .loop .inv) (c .before .before .before .before .before .before .before .before .before .before .before .before .if1 .left) (c .before .before .before .before .before .before .before .before .before .before .before .before .before .width .ensures) (sym (c .before .before .before .before .before .before .before .before .before .before .fits2 .ensures) ∙ not-false _ (c .before .before .before .before .before .before .before .before .before .if2 .left)) (c .before .before .before .before .before .before .before .if3 .left) (c .before .before .before .before .turn .ensures) (c .before .before .enum-told .given .1) (c .before .if4 .left)))
 
 enum-known-after : tie.Need-enum-known-after Inv-loop μ-loop
 enum-known-after c = search needs
@@ -158,31 +144,26 @@ measure-spec =
     begin-requires
     loop-holds
     width-requires
-    place-requires
-    refuse-requires
+    refused-requires
     returns
     mul-v
     shared-slice-read-v
     fits-requires
-    place-requires-2
-    refuse-requires-2
+    refused-requires-2
     returns-2
     add-if3
-    place-requires-3
-    refuse-requires-3
+    refused-requires-3
     returns-3
     slice-aggregate-turn
     turn-requires
     enum-known-kind
-    place-requires-4
-    refuse-requires-4
+    refused-requires-4
     returns-4
     enum-told
     add-if4
-    add-t37
+    add-t30
     returns-5
-    place-requires-5
-    refuse-requires-5
+    refused-requires-5
     returns-6
     enum-known-after
     slice-aggregate-keep

@@ -7,9 +7,9 @@ use native.Mathlib.Omega.{arith}
 use borrow.Author.Needs.{needs}
 use lib.ListN.{length}
 use Rattle.bits.proofs.Bytes.{below-known}
-use Rattle.telegram.proofs.Runs.{low}
-use Rattle.telegram.proofs.Storing.{Laying, bits-all, laying-first, in-values, value-is, stores, lays-on}
-use Rattle.telegram.proofs.Laying.{some-bits, last-in, same-size}
+use Rattle.states.proofs.Runs.{low}
+use Rattle.states.proofs.Storing.{Laying, bits-all, laying-first, in-values, value-is, stores, lays-on}
+use Rattle.states.proofs.Laying.{some-bits, last-in, same-size}
 use Rattle.telegram.proofs.writer.store.Statement.{statement}
 use Rattle.telegram.proofs.writer.store.Tie as tie
 

@@ -2,7 +2,7 @@
 use mathlib.Core.Path.{refl, sym, _∙_}
 use borrow.Author.Needs.{needs}
 use denote.Ref.{now}
-use Rattle.telegram.proofs.Writing.{writes-roomless, writes-refused, writes-accepted, storable}
+use Rattle.states.proofs.Writing.{writes-roomless, writes-refused, writes-accepted, storable}
 use Rattle.telegram.proofs.writer.write.Statement.{statement}
 use Rattle.telegram.proofs.writer.write.Tie as tie
 

@@ -1,0 +1,97 @@
+-- What the loop goes by that goes past fields unread. Assumes nothing.
+use mathlib.Core.Bool.{Bool, true, false, cond, not, _&&_, _||_}
+use mathlib.Core.Path.{_≡_, refl, sym, ap, ap₂, _∙_, subst}
+use Prim.Native.Nat.{ℕ, _+_, _-_, _≤_, _<_}
+use native.Mathlib.Omega.{arith}
+use borrow.Author.Tests.{eq-eqb, ne-eqb, eqb-true, eqb-false, ltb-true, not-true}
+use lib.Dec.{eqb, ltb}
+use Rattle.bits.specs.Take.{skipAt}
+use Rattle.bits.specs.declared.Cursor.{Cursor}
+use Rattle.bits.specs.declared.Skipped.{Skipped}
+use Rattle.bits.specs.declared.Skipped.the-variants.{To}
+use Rattle.bits.proofs.Fields.{IsPast, skipped}
+use Rattle.format.specs.Table.{act, jump, fieldAt, codeOf}
+use Rattle.format.proofs.Rows.{next-in}
+use Rattle.laws.proofs.Sources.{width-positive}
+use Rattle.laws.proofs.Told.{and-two}
+use Rattle.states.specs.Machine.{Tidy, Idle, later, Unread, unread, Drifted}
+use Rattle.states.specs.Machine.Drifted.{nothing, field}
+use Rattle.states.specs.declared.Todo.{Todo}
+use Rattle.states.proofs.Idling.{idle-ahead}
+
+-- what need not be read, by whether the telegram is told again
+-- what the test of a field says: the two cases of a telegram that is told again and of one that is not
+unread-free : (told : Bool) (k : ℕ) → cond told (eqb (codeOf (fieldAt k .sense)) 0 || ltb 2 (codeOf (fieldAt k .sense)) && not (eqb (codeOf (fieldAt k .sense)) 11)) (ltb (codeOf (fieldAt k .sense)) 3) ≡ true
+    → Unread told k
+unread-free true k e = told-free (codeOf (fieldAt k .sense)) (eqb (codeOf (fieldAt k .sense)) 0) refl e
+  where
+    told-free : (c : ℕ) (b : Bool) → eqb c 0 ≡ b → (b || ltb 2 c && not (eqb c 11)) ≡ true → (c ≡ 11 → ⊥) × (c ≡ 1 → ⊥) × (c ≡ 2 → ⊥)
+    told-free c true z h = let x = eqb-true c 0 z in (λ y. omega arith, λ y. omega arith, λ y. omega arith)
+    told-free c false z h =
+        let d = and-two (ltb 2 c) (not (eqb c 11)) h in
+        let x = ltb-true 2 c (d .0) in
+        (eqb-false c 11 (not-true _ (d .1)), λ y. omega arith, λ y. omega arith)
+unread-free false k e = ltb-true (codeOf (fieldAt k .sense)) 3 e
+
+pub unread-so : (told : Bool) (k a c : ℕ) → a ≡ act k → c ≡ codeOf (fieldAt k .sense) → unread told a c ≡ true → (act k ≡ 2) × Unread told k
+unread-so told k a c ea ec h =
+    let d = and-two _ _ (sym (ap₂ (unread told) ea ec) ∙ h) in
+    (eqb-true (act k) 2 (d .0), unread-free told k (d .1))
+
+-- where a field begins, from first at the bit start on
+pub record Drifting (n : ℕ) (told : Bool) (first : Todo) (start : ℕ) (t : Todo) (at m : ℕ) : Type 0 where
+  pub drifted : Drifted n told first start t at m
+  pub tidy : Tidy t
+  pub few : m + start ≤ at
+
+-- the row behind a field that steers nothing is in the table
+pub after-in : {n : ℕ} {told : Bool} {first : Todo} {start : ℕ} {t : Todo} {at m : ℕ} → Drifting n told first start t at m → act (t .node) ≡ 2
+    → t .node + 1 < 213
+after-in {t = t} i p = let l = next-in (t .node) (i .tidy .inside) (omega arith) in omega arith
+
+pub drifting-first : {n : ℕ} {told : Bool} {t : Todo} {at : ℕ} → Tidy t → Drifting n told t at t at 0
+drifting-first d = record { drifted = nothing; tidy = d; few = omega arith }
+
+module _ {n : ℕ} {told : Bool} {first : Todo} {start : ℕ} {t : Todo} {at m : ℕ} (i : Drifting n told first start t at m)
+    {w : ℕ} (ew : w ≡ fieldAt (t .node) .width) {r : Skipped} (e : r ≡ skipAt n w at) {next : Cursor} (h : r ≡ To next) where
+  gone : IsPast n w at (next .at)
+  gone = skipped n w at next (sym e ∙ h)
+
+  pub more : m + 1 ≤ n
+  more = omega (arith, gone .within, i .few, ew, width-positive (fieldAt (t .node)))
+
+  pub nearer : n - next .at < n - at
+  nearer = omega (arith, gone .within, gone .past, ew, width-positive (fieldAt (t .node)))
+
+  module _ (p : act (t .node) ≡ 2) (q : Unread told (t .node)) where
+    drifts : Idle t → Drifting n told first start (later t) (next .at) (m + 1)
+    drifts idle =
+        let there : next .at ≡ at + fieldAt (t .node) .width = rw (← ew) (gone .past) in
+        let inside : at + fieldAt (t .node) .width ≤ n = rw (← ew) (gone .within) in
+        record {
+          drifted = rw there (field (i .drifted) idle q inside);
+          tidy = idle-ahead t (i .tidy) idle 0 .0 .tidy;
+          few = omega (arith, i .few, there, width-positive (fieldAt (t .node)));
+        }
+
+    -- the one of the two that the next row tells
+    abbrev either : Bool → Todo
+    either b =
+        cond b (record { node = jump (t .node + 1) + 1; left = t .left - 1; outer = t .outer })
+        (record { node = t .node + 1; left = t .left; outer = t .outer })
+
+    pub drifts-next : (act (t .node + 1) ≡ 0 → ⊥) → Drifting n told first start (record { node = t .node + 1; left = t .left; outer = t .outer }) (next .at) (m + 1)
+    drifts-next z =
+        subst (λ (u : Todo). Drifting n told first start u (next .at) (m + 1)) (ap either (ne-eqb (act (t .node + 1)) 0 z))
+        (drifts (record { plain = p; again = λ y. absurd (z y) }))
+
+    pub drifts-again : act (t .node + 1) ≡ 0 → (jump (t .node + 1) ≡ 0 → ⊥) → (t .left ≡ 0 → ⊥)
+        → Drifting n told first start (record { node = jump (t .node + 1) + 1; left = t .left - 1; outer = t .outer }) (next .at) (m + 1)
+    drifts-again z j l =
+        subst (λ (u : Todo). Drifting n told first start u (next .at) (m + 1)) (ap either (eq-eqb (act (t .node + 1)) 0 z))
+        (drifts (record { plain = p; again = λ y. (omega arith, omega arith) }))
+
+-- it goes on, never back
+pub further : {n : ℕ} {told : Bool} {first : Todo} {start : ℕ} {t : Todo} {at m : ℕ} → Drifted n told first start t at m → start ≤ at
+further nothing = omega arith
+further (field d idle q h) = let l = further d in omega arith

@@ -1,0 +1,212 @@
+-- What a loop that drives the machine goes by, whatever its source: `Drives`, what holds where a field begins, kept by each turn, and
+-- the answer where the loop ends. Assumes nothing.
+use mathlib.Core.Path.{_≡_, refl, sym, ap, _∙_, subst}
+use mathlib.Core.List.{List, [], _∷_, _++_, append-assoc}
+use Prim.Native.Nat.{ℕ, _+_, _*_, _≤_, _<_}
+use native.Mathlib.Omega.{arith}
+use lib.ListN.{length, length-append}
+use Rattle.format.specs.Rules.{Earlier, begun, step, due, past, moved, among, paper, packetPlace}
+use Rattle.format.specs.Rules.Next.{over, breaks}
+use Rattle.format.specs.Table.{fieldAt, words}
+use Rattle.format.specs.Telegrams.{Entry, entry, all, values, valuesIn, bitCount, Taken, Driven, Result, refusal, push, drive, whole}
+use Rattle.format.specs.Telegrams.Taken.{got, lacks}
+use Rattle.format.specs.Telegrams.Driven.{ended, stopped}
+use Rattle.format.specs.Telegrams.Result.{accepted, refused}
+use Rattle.format.specs.declared.Kind.{Kind}
+use Rattle.format.specs.declared.Kind.the-variants.{Ended, Trailing}
+use Rattle.laws.proofs.Sources.{Source, width-named}
+use Rattle.laws.proofs.Steps.{over-mark}
+use Rattle.laws.proofs.Turns.{pushes, pushes-ended, pushes-stopped, pushes-one, one-mark, one-broken, one-lacking, one-field-bounds}
+use Rattle.states.specs.Machine.{todoOf, contextOf, view, nextOf, earlierAfter, Sound, Beginning}
+use Rattle.states.specs.Seen.{Same, Passed, Noticed}
+use Rattle.states.specs.declared.State.{State}
+use Rattle.states.specs.declared.Outcome.{Outcome}
+use Rattle.states.specs.declared.Outcome.the-variants.{Go, Over, Breaks}
+use Rattle.states.proofs.Moves.{due-right}
+use Rattle.format.specs.Rules as rules
+
+-- ---- one entry more
+
+all-append : (part : Entry → List ℕ) (a b : List Entry) → all part (a ++ b) ≡ all part a ++ all part b
+all-append part [] b = refl
+all-append part (x ∷ a) b = rw (all-append part a b, append-assoc)
+
+-- the place of a refusal does not go by the packets before
+pub same-place : (k : Kind) (st : State) (v : ℕ) (l : List Earlier) → packetPlace k (view [] st) v ≡ packetPlace k (view l st) v
+unfolding packetPlace
+same-place k st v l = refl
+
+pub values-more : (es : List Entry) (e : Entry) → length (values (es ++ (e ∷ []))) ≡ length (values es) + 1
+unfolding valuesIn
+values-more es e = rw (all-append valuesIn es (e ∷ []), length-append (values es) (e .value ∷ []))
+
+pub bits-more : (es : List Entry) (e : Entry) → bitCount (es ++ (e ∷ [])) ≡ bitCount es + e .field .width
+bits-more [] e = omega arith
+bits-more (x ∷ es) e = let h = bits-more es e in omega arith
+
+module _ (source : rules.State → List ℕ → Taken) (part : Entry → List ℕ) (Good : rules.State → List ℕ → Type 0)
+    (law : Source source part Good) where
+  -- ---- one turn of the driver, its bound being what is left
+
+  drive-lacking : (q : rules.State) (xs : List ℕ) (k : Kind) → source q xs ≡ lacks k
+      → drive paper source (length xs) q xs ≡ stopped (refusal paper k q 0)
+  unfolding drive
+  drive-lacking q [] k e =
+      let z : Ended ≡ k = cc (law .none q) in ap (λ (x : Kind). stopped (refusal paper x q 0)) z
+  drive-lacking q (x ∷ xs) k e = one-lacking paper source (length xs) q (x ∷ xs) k e
+
+  drive-broken : (q : rules.State) (xs ys : List ℕ) (v : ℕ) (k : Kind) → source q xs ≡ got v ys → step paper q v ≡ breaks k
+      → drive paper source (length xs) q xs ≡ stopped (refusal paper k q v)
+  drive-broken q [] ys v k e b = let n = law .none q in let z : _≡_ {A = ℕ} 0 1 = cc in absurd (omega arith)
+  drive-broken q (x ∷ xs) ys v k e b = one-broken paper source (length xs) q (x ∷ xs) v ys k e b
+
+  drive-mark : (q : rules.State) (xs ys : List ℕ) (v : ℕ) → source q xs ≡ got v ys → step paper q v ≡ over
+      → drive paper source (length xs) q xs ≡ ended (entry q v ∷ []) q ys
+  drive-mark q [] ys v e b = let n = law .none q in let z : _≡_ {A = ℕ} 0 1 = cc in absurd (omega arith)
+  drive-mark q (x ∷ xs) ys v e b = one-mark paper source (length xs) q (x ∷ xs) v ys e b
+
+  module _ (xs₀ : List ℕ) where
+    -- what driving all of the source comes to
+    abbrev pub result : Result
+    result = whole paper (drive paper source (length xs₀) begun xs₀)
+
+    -- where a field begins: the definition goes on from here with what is left, after the entries so far
+    pub record Drives (rows seen : List ℕ) (met : ℕ) (st : State) (count : ℕ) (xs : List ℕ) : Type 0 where
+      pub table : rows ≡ words
+      pub entries : List Entry
+      pub earlier : List Earlier
+      pub goes : drive paper source (length xs₀) begun xs₀ ≡ pushes entries (drive paper source (length xs) (view earlier st) xs)
+      pub good : Good (view earlier st) xs
+      pub sound : Sound st
+      pub sent : bitCount entries ≡ st .at
+      pub counts : count ≡ length (values entries)
+      pub noted : 2 * met ≤ st .at
+      pub long : length seen ≡ 416
+      pub same : Same seen met earlier
+
+    from-start : (q : rules.State) (xs : List ℕ) → q ≡ begun → xs ≡ xs₀
+        → drive paper source (length xs₀) begun xs₀ ≡ drive paper source (length xs) q xs
+    from-start q xs e same = rw (e, same)
+
+    pub drives-first : {rows seen : List ℕ} {st : State} {xs : List ℕ} → rows ≡ words → length seen ≡ 416 → Beginning st → Good begun xs₀
+        → xs ≡ xs₀ → Drives rows seen 0 st 0 xs
+    unfolding begun among
+    drives-first {st = st} {xs = xs} t h b g same =
+        let z : st .at ≡ 0 = ap (λ (q : rules.State). q .at) (b .right) in
+        record {
+          table = t;
+          entries = [];
+          earlier = [];
+          goes = from-start (view [] st) xs (b .right) same;
+          good = subst (λ (q : rules.State). Good q xs) (sym (b .right)) (subst (λ (l : List ℕ). Good begun l) (sym same) g);
+          sound = b .sound;
+          sent = sym z;
+          counts = refl;
+          noted = omega arith;
+          long = h;
+          same = λ i d l. refl;
+        }
+
+    module _ {rows seen : List ℕ} {met : ℕ} {st : State} {count : ℕ} {xs : List ℕ} (i : Drives rows seen met st count xs) where
+      abbrev pub here : rules.State
+      here = view (i .earlier) st
+
+      -- the field that is due, as the definition has it
+      pub due-is : due (todoOf (st .todo)) ≡ fieldAt (st .todo .node)
+      due-is = sym (due-right (st .todo) (i .sound .tidy))
+
+      ends : (d : Driven) → drive paper source (length xs) here xs ≡ d → result ≡ whole paper (pushes (i .entries) d)
+      ends d e = ap (whole paper) (i .goes ∙ ap (pushes (i .entries)) e)
+
+      stops : (k : Kind) (v place : ℕ) → ((l : List Earlier) → place ≡ packetPlace k (view l st) v)
+          → drive paper source (length xs) here xs ≡ stopped (refusal paper k here v)
+          → result ≡ refused (record { kind = k; place = place })
+      stops k v place pl e =
+          ends (stopped (refusal paper k here v)) e
+          ∙ rw (pushes-stopped (i .entries) (refusal paper k here v), pl (i .earlier))
+
+      -- ---- where the loop ends
+
+      pub refused-lacking : {k : Kind} → source here xs ≡ lacks k → {place : ℕ} → ((l : List Earlier) → place ≡ packetPlace k (view l st) 0)
+          → result ≡ refused (record { kind = k; place = place })
+      refused-lacking {k} e {place} pl = stops k 0 place pl (drive-lacking here xs k e)
+
+      module _ {v : ℕ} {ys : List ℕ} (e : source here xs ≡ got v ys) {out : Outcome} (o : Passed seen met st v out) where
+        entry-width : entry here v .field .width ≡ fieldAt (st .todo .node) .width
+        entry-width = width-named (todoOf (st .todo)) v ∙ rw due-is
+
+        step-is : step paper here v ≡ nextOf (earlierAfter (i .earlier) st v) out
+        step-is = o .right (i .earlier) (i .same)
+
+        pub refused-broken : {k : Kind} → out ≡ Breaks k → {place : ℕ} → ((l : List Earlier) → place ≡ packetPlace k (view l st) v)
+            → result ≡ refused (record { kind = k; place = place })
+        refused-broken {k} b {place} pl =
+            stops k v place pl (drive-broken here xs ys v k e (step-is ∙ ap (nextOf (earlierAfter (i .earlier) st v)) b))
+
+        over-is : out ≡ Over → step paper here v ≡ over
+        over-is b = step-is ∙ ap (nextOf (earlierAfter (i .earlier) st v)) b
+
+        marked : out ≡ Over → result ≡ whole paper (ended (i .entries ++ (entry here v ∷ [])) here ys)
+        marked b =
+            ends _ (drive-mark here xs ys v e (over-is b)) ∙ ap (whole paper) (pushes-ended (i .entries) (entry here v ∷ []) here ys)
+
+        pub accepted-mark : out ≡ Over → ys ≡ [] → result ≡ accepted (i .entries ++ (entry here v ∷ []))
+        accepted-mark b z = marked b ∙ rw z
+
+        -- its values and its bits
+        pub mark-counted : count + 1 ≡ length (values (i .entries ++ (entry here v ∷ [])))
+        mark-counted = rw (values-more (i .entries) (entry here v), i .counts)
+
+        pub mark-sized : bitCount (i .entries ++ (entry here v ∷ [])) ≡ st .at + fieldAt (st .todo .node) .width
+        mark-sized = bits-more (i .entries) (entry here v) ∙ rw (i .sent, entry-width)
+
+        trailing : (zs : List ℕ) → 0 < length zs
+            → whole paper (ended (i .entries ++ (entry here v ∷ [])) here zs) ≡ refused (refusal paper Trailing here 255)
+        trailing [] h = absurd (omega arith)
+        trailing (z ∷ zs) h = refl
+
+        pub refused-trailing : out ≡ Over → 0 < length ys → {place : ℕ} → ((l : List Earlier) → place ≡ packetPlace Trailing (view l st) v)
+            → result ≡ refused (record { kind = Trailing; place = place })
+        refused-trailing b h {place} pl =
+            let mark : v ≡ 255 = over-mark paper here v (over-is b) .1 in
+            marked b ∙ trailing ys h ∙ rw (pl (i .earlier), mark)
+
+        -- ---- where it goes on
+
+        module _ {after : State} (g : out ≡ Go after) where
+          kept : Sound after × (after .at ≡ st .at + fieldAt (st .todo .node) .width)
+          kept = rw g at (o .goes)
+
+          pub moves : after .at ≡ st .at + fieldAt (st .todo .node) .width
+          moves = kept .1
+
+          past-is : past here ≡ after .at
+          past-is = rw due-is (sym (kept .1))
+
+          abbrev onward : rules.State
+          onward = view (earlierAfter (i .earlier) st v) after
+
+          arrives : moved here (todoOf (after .todo)) (contextOf (earlierAfter (i .earlier) st v) after) ≡ onward
+          arrives = rw past-is
+
+          goes-on : drive paper source (length xs) here xs ≡ push (entry here v) (drive paper source (length ys) onward ys)
+          goes-on =
+              one-field-bounds paper source part Good law (length xs) (length ys) here v xs ys (todoOf (after .todo))
+              (contextOf (earlierAfter (i .earlier) st v) after) (i .good) e (step-is ∙ ap (nextOf (earlierAfter (i .earlier) st v)) g)
+              (omega arith) (omega arith)
+              ∙ ap (λ (q : rules.State). push (entry here v) (drive paper source (length ys) q ys)) arrives
+
+          pub drives-on : {met2 : ℕ} {seen2 : List ℕ} → Noticed seen met st v met2 seen2 → Drives rows seen2 met2 after (count + 1) ys
+          drives-on n = record {
+            table = i .table;
+            entries = i .entries ++ (entry here v ∷ []);
+            earlier = earlierAfter (i .earlier) st v;
+            goes = i .goes ∙ ap (pushes (i .entries)) goes-on ∙ sym (pushes-one (i .entries) (entry here v) _);
+            good = subst (λ (q : rules.State). Good q ys) arrives (law .taken here v xs ys (i .good) e .good (todoOf (after .todo)) _);
+            sound = kept .0;
+            sent = mark-sized ∙ sym (kept .1);
+            counts = rw (values-more (i .entries) (entry here v), i .counts);
+            noted = omega (arith, i .noted, n .few, kept .1);
+            long = n .long ∙ i .long;
+            same = n .same (i .earlier) (i .same);
+          }

@@ -1,0 +1,111 @@
+-- A field of which nothing is kept and whose value keeps its rule: the definition's step comes to the state behind it, with nothing else
+-- changed. Assumes nothing.
+use mathlib.Core.Bool.{Bool, true, false, cond, _&&_, _||_}
+use mathlib.Core.List.{List}
+use mathlib.Core.Option.{none}
+use mathlib.Core.Path.{_≡_, refl, sym, ap, _∙_}
+use Prim.Native.Nat.{ℕ, _+_, _-_, _^_, _<_, _≤_}
+use native.Mathlib.Decide.{decLe}
+use native.Mathlib.Nat.{lt-of-not-le}
+use native.Mathlib.Omega.{arith}
+use borrow.Author.Tests.{eqb-true, eqb-false, ltb-true, leb-true}
+use lib.Dec.{eqb, leb, ltb}
+use lib.ListN.{length}
+use Rattle.format.specs.Rules.{broken, unless, forbidden}
+use Rattle.format.specs.Table.{act, jump, fieldAt, codeOf, lowOf, highOf}
+use Rattle.laws.proofs.Told.{and-two}
+use Rattle.states.specs.Machine.{contextOf, levelOf, ruleAt, Tidy, Idle, later, Slight, slight, reached, Advanced, Noted, Sound, Judged, Entered}
+use Rattle.states.specs.Seen.{Passed, Noticed}
+use Rattle.states.specs.declared.State.{State}
+use Rattle.states.specs.declared.Outcome.{Outcome}
+use Rattle.states.specs.declared.Outcome.the-variants.{Go}
+use Rattle.states.specs.declared.Todo.{Todo}
+use Rattle.states.specs.declared.Ahead.the-variants.{On}
+use Rattle.states.specs.declared.Verdict.the-variants.{Fine}
+use Rattle.states.proofs.Advancing.{advances-next, again-field, advances-again}
+use Rattle.states.proofs.Directions.{directs-not, held-none, passes, notices, absurd-flag}
+use Rattle.states.proofs.Noting.{nothing}
+use Rattle.states.proofs.Senses.{judge-free, judge-range, range-in}
+use Rattle.states.proofs.Stepping.{settled-goes, entered-on, stepped-goes}
+
+-- what follows a field that steers nothing, and that it is a field
+module _ (t : Todo) (d : Tidy t) (i : Idle t) (v : ℕ) where
+  abbrev k : ℕ
+  k = t .node + 1
+
+  abbrev Follows : Todo → Type 0
+  Follows u = Advanced t v (On u) × (act (u .node) ≡ 0 → ⊥)
+
+  by-test : (b : Bool) → eqb (act k) 0 ≡ b
+      → Follows (cond b (record { node = jump k + 1; left = t .left - 1; outer = t .outer }) (record { node = k; left = t .left; outer = t .outer }))
+  by-test true e =
+      let z = eqb-true (act k) 0 e in
+      let g = i .again z in
+      let f = again-field t v d (i .plain) z (g .0) (g .1) in
+      (advances-again t v d (i .plain) z (g .0) (g .1), λ h. omega arith)
+  by-test false e = let n = eqb-false (act k) 0 e in (advances-next t v d (i .plain) n, n)
+
+  pub idle-ahead : Follows (later t)
+  idle-ahead = by-test (eqb (act k) 0) refl
+
+-- a value that keeps its rule, where no packet's Q_DIR is due: what is noted of it, and where it leads
+module _ (s : State) (d : Sound s) (v : ℕ) (j : Judged s v false Fine) (nine : codeOf (fieldAt (s .todo .node) .sense) ≡ 9 → ⊥)
+    (seen : List ℕ) (met : ℕ) where
+  pub fine-passed : {r : Outcome} → Entered s v r → Passed seen met s v r
+  fine-passed {r} e = passes seen met s v false false r (directs-not s nine) (λ h. absurd-flag false h refl) (stepped-goes s v false d r j e)
+
+  pub fine-noticed : met < length seen → v < 2 ^ fieldAt (s .todo .node) .width → Noticed seen met s v met seen
+  fine-noticed h l = notices seen met s v false met seen (directs-not s nine) h l (held-none seen met false s v refl)
+
+-- whatever a field holds that may hold anything
+pub slight-free : {k v : ℕ} → codeOf (fieldAt k .sense) < 3 → Slight k v
+slight-free h = record { unkept = λ l. absurd (omega arith); allowed = λ l. absurd (omega arith) }
+
+-- what the test of a value says
+pub slight-so : (k v c a b : ℕ) → c ≡ codeOf (fieldAt k .sense) → a ≡ lowOf (fieldAt k) → b ≡ highOf (fieldAt k) → slight c a b v ≡ true → Slight k v
+slight-so k v c a b ec ea eb h = by-test (leb c 2) refl h
+  where
+    by-test : (t : Bool) → leb c 2 ≡ t → (t || ltb 9 c && (leb a v && leb v b)) ≡ true → Slight k v
+    by-test true z y = let x = leb-true c 2 z in slight-free (omega arith)
+    by-test false z y =
+        let d = and-two (ltb 9 c) (leb a v && leb v b) y in
+        let r = and-two (leb a v) (leb v b) (d .1) in
+        let x = ltb-true 9 c (d .0) in
+        record { unkept = λ l. omega arith; allowed = λ l. (rw (← ea) (leb-true a v (r .0)), rw (← eb) (leb-true v b (r .1))) }
+
+module _ (s : State) (d : Sound s) (v : ℕ) (q : Slight (s .todo .node) v) {u : Todo} (a : Advanced (s .todo) v (On u)) (f : act (u .node) ≡ 0 → ⊥)
+    {x : ℕ} (ex : x ≡ s .at + fieldAt (s .todo .node) .width) where
+  abbrev code : ℕ
+  code = codeOf (fieldAt (s .todo .node) .sense)
+
+  abbrev after : State
+  after = reached s x u
+
+  -- the codes of fields of which something is kept
+  kept-not : (c : ℕ) → 2 < c → c < 10 → code ≡ c → ⊥
+  kept-not c l h e = let w = q .unkept (omega arith) in omega arith
+
+  notes : Noted s code v s
+  notes =
+      nothing s v code (kept-not 9 (omega arith) (omega arith)) (kept-not 3 (omega arith) (omega arith)) (kept-not 7 (omega arith) (omega arith))
+      (kept-not 8 (omega arith) (omega arith)) (kept-not 4 (omega arith) (omega arith))
+
+  sound-after : Sound after
+  sound-after = record { tidy = a .tidy; first = omega (arith, d .first); second = omega (arith, d .second); small = d .small }
+
+  pub slight-entered : Entered s v (Go after)
+  slight-entered = entered-on s v u s x (Go after) a notes ex (settled-goes after sound-after f)
+
+  pub slight-judged : Judged s v false Fine
+  slight-judged p l h = by (decLe 3 code)
+    where
+      by : Dec (3 ≤ code) → none ≡ broken p (contextOf l s) (ruleAt (s .todo .node)) v
+      by (yes g) =
+          let r = q .unkept (omega arith) in
+          let w = q .allowed r in
+          ap (λ (b : Bool). unless b (forbidden (levelOf (s .level)))) (sym (range-in _ _ v (w .0) (w .1)))
+          ∙ judge-range p (contextOf l s) (fieldAt (s .todo .node)) v r
+      by (no g) = let r = lt-of-not-le g in judge-free p (contextOf l s) (fieldAt (s .todo .node)) v (omega arith)
+
+  pub slight-not : code ≡ 9 → ⊥
+  slight-not = kept-not 9 (omega arith) (omega arith)

@@ -1,0 +1,107 @@
+-- Each promise of this crate's own functions is met by one answer alone. Assumes nothing.
+use mathlib.Core.Path.{_≡_, refl, sym, ap, _∙_}
+use mathlib.Core.Bool.{Bool, not, _&&_}
+use mathlib.Core.List.{List, []}
+use Prim.Native.Nat.{ℕ}
+use lib.Dec.{eqb}
+use lib.ListN.{take}
+use Rattle.bits.proofs.Once.{Once, equation-once}
+use Rattle.format.specs.Normal.{viewOf}
+use Rattle.format.specs.Rules.{Earlier, Context, packetPlace, among, noted, ruleOf}
+use Rattle.format.specs.Telegrams.{Entry}
+use Rattle.format.specs.declared.Answer.the-variants.{Refused}
+use Rattle.format.specs.declared.Kind.{Kind}
+use Rattle.states.specs.Machine.{Noted, senseOf, contextOf, levelOf, view, unread, slight}
+use Rattle.states.specs.Normaliser.{viewIs}
+use Rattle.states.specs.Reader.{sized}
+use Rattle.states.specs.Seen.{packetsIn}
+use Rattle.states.specs.declared.Level.{Level}
+use Rattle.states.specs.declared.Level.the-variants.{Header, Packet, User}
+use Rattle.states.specs.declared.State.{State}
+use Rattle.states.specs.declared.View.{View}
+use Rattle.states.specs.declared.View.the-variants.{Kept, Scales, Measures}
+use Rattle.format.specs.Rules as rules
+
+pub sized-once : (s : List ℕ) (n : ℕ) → Once (λ r. r ≡ sized s n)
+sized-once s n = equation-once (sized s n)
+
+pub collides-once : (seen : List ℕ) (n id dir : ℕ) → Once (λ r. r ≡ (not (eqb id 44) && among id dir (packetsIn (take n seen))))
+collides-once seen n id dir = equation-once (not (eqb id 44) && among id dir (packetsIn (take n seen)))
+
+pub unread-once : (told : Bool) (a c : ℕ) → Once (λ r. r ≡ unread told a c)
+unread-once told a c = equation-once (unread told a c)
+
+pub slight-once : (c low high v : ℕ) → Once (λ r. r ≡ slight c low high v)
+slight-once c low high v = equation-once (slight c low high v)
+
+pub closes-once : (s : State) → Once (λ r. (l : List Earlier) → r ≡ rules.closes (s .at) (contextOf l s) (levelOf (s .level)))
+closes-once s a b p q = p [] ∙ sym (q [])
+
+pub refused-once : (k : Kind) (s : State) (v : ℕ)
+    → Once (λ r. (l : List Earlier) → r ≡ Refused (record { kind = k; place = packetPlace k (view l s) v }))
+refused-once k s v a b p q = p [] ∙ sym (q [])
+
+-- a way of counting is known by what it stands for
+view-same : (a b : View) → viewIs a ≡ viewIs b → a ≡ b
+view-same Kept Kept e = refl
+view-same Kept Scales e = cc
+view-same Kept Measures e = cc
+view-same Scales Kept e = cc
+view-same Scales Scales e = refl
+view-same Scales Measures e = cc
+view-same Measures Kept e = cc
+view-same Measures Scales e = cc
+view-same Measures Measures e = refl
+
+pub counts-once : (c v : ℕ) → Once (λ r. (a b : ℕ) (es : List Entry) → viewOf (senseOf c a b) v es ≡ viewIs r)
+counts-once c v x y p q = view-same x y (sym (p 0 0 []) ∙ q 0 0 [])
+
+-- a level is known by the definition's
+level-same : (a b : Level) → levelOf a ≡ levelOf b → a ≡ b
+level-same Header Header e = refl
+level-same Header Packet e = cc
+level-same Header User e = cc
+level-same Packet Header e = cc
+level-same Packet Packet e = refl
+level-same Packet User e = cc
+level-same User Header e = cc
+level-same User Packet e = cc
+level-same User User e = refl
+
+-- a state is known by its position, by what is to be sent, and by the context that it stands for
+abbrev parts : State → State
+parts a =
+    record {
+      at = a .at;
+      todo = a .todo;
+      level = a .level;
+      start = a .start;
+      id = a .id;
+      dir = a .dir;
+      long = a .long;
+      userstart = a .userstart;
+      userlong = a .userlong;
+      pig = a .pig;
+    }
+
+state-same : (a b : State) (l : List Earlier) → a .at ≡ b .at → a .todo ≡ b .todo → contextOf l a ≡ contextOf l b → a ≡ b
+state-same a b l e f h = by-parts
+  where
+    by-parts : parts a ≡ parts b
+    by-parts =
+        rw (
+          e,
+          f,
+          level-same (a .level) (b .level) (ap (λ (x : Context). x .level) h),
+          ap (λ (x : Context). x .start) h,
+          ap (λ (x : Context). x .id) h,
+          ap (λ (x : Context). x .dir) h,
+          ap (λ (x : Context). x .long) h,
+          ap (λ (x : Context). x .userStart) h,
+          ap (λ (x : Context). x .userLong) h,
+          ap (λ (x : Context). x .pig) h,
+        )
+
+pub noted-once : (s : State) (c v : ℕ) → Once (Noted s c v)
+noted-once s c v a b p q =
+    state-same a b _ (p .here ∙ sym (q .here)) (p .same ∙ sym (q .same)) (sym (p .right 0 0 []) ∙ q .right 0 0 [])

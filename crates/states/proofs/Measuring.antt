@@ -1,0 +1,133 @@
+-- What the loop that measures a list of values goes by: the driver over values. Assumes nothing.
+use mathlib.Core.Path.{_≡_, refl, ap, _∙_}
+use mathlib.Core.Bool.{true, false}
+use mathlib.Core.List.{List, [], _∷_}
+use Prim.Native.Nat.{ℕ, _+_, _-_, _^_, _≤_, _<_}
+use native.Mathlib.Numerals.{add-one}
+use native.Mathlib.Omega.{arith}
+use borrow.Author.Tests.{ltb-true, le-leb, lt-leb}
+use lib.Dec.{ltb}
+use lib.ListN.{length, drop, getD, length-drop, drop-of-length-le}
+use lib.Seq.{drop-cons}
+use Rattle.format.specs.Rules.{Earlier, begun, paper, packetPlace}
+use Rattle.format.specs.Table.{fieldAt, words}
+use Rattle.format.specs.Telegrams.{valuesIn, fromValues, write}
+use Rattle.format.specs.Telegrams.Taken.{got, lacks}
+use Rattle.format.specs.Telegrams.Result.{refused}
+use Rattle.format.specs.declared.Kind.{Kind}
+use Rattle.format.specs.declared.Kind.the-variants.{Ended, Trailing, Wide, Full}
+use Rattle.format.specs.declared.Answer.the-variants.{Accepted}
+use Rattle.laws.proofs.Sources.{Listed, from-values}
+use Rattle.states.specs.Machine.{view, Beginning}
+use Rattle.states.specs.Seen.{Passed, Noticed}
+use Rattle.states.specs.Writer.{sizeOf}
+use Rattle.states.specs.declared.State.{State}
+use Rattle.states.specs.declared.Outcome.{Outcome}
+use Rattle.states.specs.declared.Outcome.the-variants.{Go, Over, Breaks}
+use Rattle.states.proofs.Driving.{same-place, Drives, drives-first, due-is, refused-lacking, refused-broken, accepted-mark, refused-trailing, mark-sized, moves, drives-on}
+use Rattle.format.specs.Fields as fields
+use Rattle.format.specs.Rules as rules
+
+-- ---- the value for the field that is due
+
+module _ (q : rules.State) (f : fields.Field) (e : rules.field q ≡ f) (v : ℕ) (vs : List ℕ) where
+  lacks-wide : ltb v (2 ^ f .width) ≡ false → fromValues q (v ∷ vs) ≡ lacks Wide
+  unfolding fromValues
+  lacks-wide h = rw (e, h)
+
+  lacks-full : ltb v (2 ^ f .width) ≡ true → 830 < q .at + f .width → fromValues q (v ∷ vs) ≡ lacks Full
+  unfolding fromValues
+  lacks-full h l = rw (e, h, lt-leb (q .at + f .width) 830 l)
+
+  has-value : ltb v (2 ^ f .width) ≡ true → q .at + f .width ≤ 830 → fromValues q (v ∷ vs) ≡ got v vs
+  unfolding fromValues
+  has-value h l = rw (e, h, le-leb (q .at + f .width) 830 l)
+
+lacks-ended : (q : rules.State) (vs : List ℕ) → vs ≡ [] → fromValues q vs ≡ lacks Ended
+unfolding fromValues
+lacks-ended q vs e = rw e
+
+-- ---- where a field begins
+
+abbrev pub ValueDrives : List ℕ → List ℕ → List ℕ → ℕ → State → ℕ → Type 0
+ValueDrives vs rows seen met st i = Drives fromValues valuesIn Listed from-values vs rows seen met st i (drop i vs)
+
+pub record Measures (vs rows seen : List ℕ) (met : ℕ) (st : State) (i : ℕ) : Type 0 where
+  pub drives : ValueDrives vs rows seen met st i
+  pub within : i ≤ length vs
+  pub low : st .at ≤ 830
+
+pub measures-first : {vs rows seen : List ℕ} {st : State} → rows ≡ words → length seen ≡ 416 → Beginning st → Measures vs rows seen 0 st 0
+unfolding begun
+measures-first {vs} {rows} {seen} {st} t h b =
+    let z : st .at ≡ 0 = ap (λ (q : rules.State). q .at) (b .right) in
+    record { drives = drives-first fromValues valuesIn Listed from-values vs t h b tt refl; within = omega arith; low = omega arith }
+
+module _ {vs rows seen : List ℕ} {met : ℕ} {st : State} {i : ℕ} (m : Measures vs rows seen met st i) where
+  abbrev q : rules.State
+  q = view (m .drives .earlier) st
+
+  field-is : rules.field q ≡ fieldAt (st .todo .node)
+  field-is = due-is fromValues valuesIn Listed from-values vs (m .drives)
+
+  pub ends-none : length vs ≤ i
+      → write paper vs ≡ refused (record { kind = Ended; place = packetPlace Ended (view [] st) 0 })
+  unfolding write
+  ends-none h =
+      refused-lacking fromValues valuesIn Listed from-values vs (m .drives) (lacks-ended q (drop i vs) (drop-of-length-le vs h)) (same-place Ended st 0)
+
+  module _ (h : i < length vs) {w : ℕ} (ew : w ≡ fieldAt (st .todo .node) .width) where
+    abbrev v : ℕ
+    v = getD vs i 0
+
+    next-is : drop i vs ≡ v ∷ drop (i + 1) vs
+    next-is = rw (add-one i) (drop-cons vs i 0 h)
+
+    pub ends-wide : ltb v (2 ^ w) ≡ false
+        → write paper vs ≡ refused (record { kind = Wide; place = packetPlace Wide (view [] st) 0 })
+    unfolding write
+    ends-wide k =
+        refused-lacking fromValues valuesIn Listed from-values vs (m .drives)
+        (ap (fromValues q) next-is ∙ lacks-wide q (fieldAt (st .todo .node)) field-is v (drop (i + 1) vs) (rw (← ew) k)) (same-place Wide st 0)
+
+    module _ (small : ltb v (2 ^ w) ≡ true) where
+      pub ends-full : 830 < st .at + w
+          → write paper vs ≡ refused (record { kind = Full; place = packetPlace Full (view [] st) 0 })
+      unfolding write
+      ends-full k =
+          refused-lacking fromValues valuesIn Listed from-values vs (m .drives)
+          (ap (fromValues q) next-is ∙ lacks-full q (fieldAt (st .todo .node)) field-is v (drop (i + 1) vs) (rw (← ew) small) (rw (← ew) k)) (same-place Full st 0)
+
+      pub fits : v < 2 ^ fieldAt (st .todo .node) .width
+      fits = rw (← ew) (ltb-true v (2 ^ w) small)
+
+      module _ (room : st .at + w ≤ 830) where
+        has : fromValues q (drop i vs) ≡ got v (drop (i + 1) vs)
+        has = ap (fromValues q) next-is ∙ has-value q (fieldAt (st .todo .node)) field-is v (drop (i + 1) vs) (rw (← ew) small) (rw (← ew) room)
+
+        module _ {out : Outcome} (o : Passed seen met st v out) where
+          pub ends-broken : {k : Kind} → out ≡ Breaks k
+              → write paper vs ≡ refused (record { kind = k; place = packetPlace k (view [] st) v })
+          unfolding write
+          ends-broken b = refused-broken fromValues valuesIn Listed from-values vs (m .drives) has o b (same-place _ st v)
+
+          pub ends-well : out ≡ Over → i + 1 ≡ length vs → Accepted (st .at + w) ≡ sizeOf (write paper vs)
+          unfolding write
+          ends-well b z =
+              let all : length vs ≤ i + 1 = omega arith in
+              let none : drop (i + 1) vs ≡ [] = drop-of-length-le vs all in
+              rw (accepted-mark fromValues valuesIn Listed from-values vs (m .drives) has o b none, mark-sized fromValues valuesIn Listed from-values vs (m .drives) has o, ew)
+
+          pub ends-trailing : out ≡ Over → (i + 1 ≡ length vs → ⊥)
+              → write paper vs ≡ refused (record { kind = Trailing; place = packetPlace Trailing (view [] st) v })
+          unfolding write
+          ends-trailing b z =
+              refused-trailing fromValues valuesIn Listed from-values vs (m .drives) has o b (rw length-drop (omega arith)) (same-place Trailing st v)
+
+          pub measures-on : {after : State} → out ≡ Go after → {met2 : ℕ} {seen2 : List ℕ} → Noticed seen met st v met2 seen2
+              → Measures vs rows seen2 met2 after (i + 1)
+          measures-on g k = record {
+            drives = drives-on fromValues valuesIn Listed from-values vs (m .drives) has o g k;
+            within = omega arith;
+            low = let a = moves fromValues valuesIn Listed from-values vs (m .drives) has o g in omega arith;
+          }

@@ -1,0 +1,106 @@
+-- The header taken at once, whose first 25 bits hold all of it that a rule reads; and a packet's head, whose NID_PACKET, Q_DIR and L_PACKET
+-- are 23. Definitions alone.
+use mathlib.Core.Path.{_≡_}
+use mathlib.Core.Bool.{false, not, _&&_}
+use mathlib.Core.List.{List}
+use Prim.Native.Nat.{ℕ, _+_, _/_, _%_, _≤_}
+use lib.Dec.{eqb}
+use lib.ListN.{length, take}
+use Rattle.bits.specs.Take.{takeAt}
+use Rattle.bits.specs.declared.Taken.the-variants.{Field}
+use Rattle.format.specs.Rules.{among}
+use Rattle.format.specs.Table.{act, fieldAt, codeOf, etcsRow, words}
+use Rattle.states.specs.Seen.{packetsIn}
+use Rattle.states.specs.declared.Begun.{Begun}
+use Rattle.states.specs.declared.Begun.the-variants.{To, Not}
+use Rattle.states.specs.declared.Level.the-variants.{Packet}
+use Rattle.states.specs.declared.State.{State}
+
+-- ---- the header
+
+-- N_PIG, N_TOTAL and M_DUP in one number
+abbrev pub pigIn : ℕ → ℕ
+pigIn a = a / 8192 % 8
+
+abbrev pub totalIn : ℕ → ℕ
+totalIn a = a / 1024 % 8
+
+abbrev pub dupIn : ℕ → ℕ
+dupIn a = a / 256 % 4
+
+-- the state behind the header
+abbrev pub behind : ℕ → State
+behind a =
+    record {
+      at = 50;
+      todo = record { node = 0; left = 0; outer = 0 };
+      level = Packet;
+      start = 50;
+      id = 0;
+      dir = 0;
+      long = 0;
+      userstart = 0;
+      userlong = 0;
+      pig = pigIn a;
+    }
+
+-- the header keeps every rule: "Q_UPDOWN = 1, M_VERSION = 16, Q_MEDIA = 0", in nine bits 288; "M_DUP ≤ 2, N_PIG ≤ N_TOTAL"
+pub record Fronted (bytes : List ℕ) (n : ℕ) (r : State) : Type 0 where
+  pub bits : ℕ
+  pub field : takeAt bytes n 25 0 ≡ Field bits (record { at = 25 })
+  pub room : 50 ≤ n
+  pub fixed : bits / 65536 ≡ 288
+  pub ordered : pigIn bits ≤ totalIn bits
+  pub single : dupIn bits ≤ 2
+  pub state : r ≡ behind bits
+
+abbrev pub Started : List ℕ → ℕ → Begun → Type 0
+Started bytes n (To r) = Fronted bytes n r
+Started bytes n Not = Unit
+
+-- ---- a packet's head
+
+-- the three values in one number
+abbrev pub idIn : ℕ → ℕ
+idIn a = a / 32768
+
+abbrev pub dirIn : ℕ → ℕ
+dirIn a = a / 8192 % 4
+
+abbrev pub longIn : ℕ → ℕ
+longIn a = a % 8192
+
+-- the array is the table of rows, and the packets before lie in theirs
+pub record Heading (rows seen : List ℕ) (met : ℕ) : Type 0 where
+  pub table : rows ≡ words
+  pub inside : met ≤ length seen
+
+-- the state behind the head
+abbrev pub opened : State → ℕ → State
+opened s a =
+    record {
+      at = s .at + 23;
+      todo = record { node = etcsRow (idIn a) + 2; left = 0; outer = 0 };
+      level = Packet;
+      start = s .start;
+      id = idIn a;
+      dir = dirIn a;
+      long = longIn a;
+      userstart = 0;
+      userlong = 0;
+      pig = s .pig;
+    }
+
+-- the head keeps every rule, and a field follows it
+pub record Opened (bytes : List ℕ) (n : ℕ) (seen : List ℕ) (met : ℕ) (s : State) (r : State) : Type 0 where
+  pub bits : ℕ
+  pub field : takeAt bytes n 23 (s .at) ≡ Field bits (record { at = s .at + 23 })
+  pub known : codeOf (fieldAt (etcsRow (idIn bits)) .sense) ≡ 9
+  pub more : act (etcsRow (idIn bits) + 2) ≡ 0 → ⊥
+  pub allowed : dirIn bits ≤ 2
+  pub alone : false ≡ (not (eqb (idIn bits) 44) && among (idIn bits) (dirIn bits) (packetsIn (take met seen)))
+  pub state : r ≡ opened s bits
+
+abbrev pub Headed : List ℕ → ℕ → List ℕ → ℕ → State → Begun → Type 0
+Headed bytes n seen met s (To r) = Opened bytes n seen met s r
+Headed bytes n seen met s Not = Unit

@@ -1,0 +1,45 @@
+-- Document 01: what the writer answers, and what the lent bytes then hold. Definitions alone.
+use mathlib.Core.Path.{_≡_}
+use mathlib.Core.Bool.{cond}
+use mathlib.Core.List.{List, _++_}
+use Prim.Native.Nat.{ℕ, _≤_}
+use lib.Dec.{leb}
+use lib.ListN.{length, drop}
+use Rattle.bits.specs.Bits.{bytesOf}
+use Rattle.format.specs.Rules.{Terms, paper}
+use Rattle.format.specs.Telegrams.{Entry, Result, Telegram, bits, bitCount, values, write}
+use Rattle.format.specs.Telegrams.Result.{accepted, refused}
+use Rattle.format.specs.declared.Kind.the-variants.{Room}
+use Rattle.format.specs.declared.Answer.{Answer}
+use Rattle.states.specs.Reader.{atOnce, answered}
+
+-- the writer, lent so many bytes. "1: output shorter than .. 104 bytes"
+unfoldable pub writeInto : Terms → List ℕ → ℕ → Result
+writeInto p vs room = cond (leb 104 room) (write p vs) (atOnce Room)
+
+-- "Gives n"
+abbrev pub sizeOf : Result → Answer
+sizeOf r = answered bitCount r
+
+-- "fills at least 104 lent bytes"; "output .. past byte ceil(n/8) - 1, keeps its former contents"; "A refusal .. changes no output"
+abbrev pub bytesOver : Result → List ℕ → List ℕ
+bytesOver (accepted es) before = bytesOf (bits es) ++ drop (length (bytesOf (bits es))) before
+bytesOver (refused r) before = before
+
+-- the promise of `write`
+pub record Write (p : Terms) (vs : List ℕ) (before : List ℕ) (answer : Answer) (after : List ℕ) : Type 0 where
+  pub answers : answer ≡ sizeOf (writeInto p vs (length before))
+  pub contents : after ≡ bytesOver (writeInto p vs (length before)) before
+
+-- ---- the second run, over values that are an accepted telegram of n bits
+
+pub record Storing (vs : List ℕ) (n : ℕ) (out : List ℕ) : Type 0 where
+  pub entries : List Entry
+  pub telegram : Telegram paper entries
+  pub same : vs ≡ values entries
+  pub size : n ≡ bitCount entries
+  pub room : 104 ≤ length out
+
+-- the bytes of that telegram stand in front, and behind them is what was there
+abbrev pub Stored : List ℕ → List ℕ → List ℕ → Type 0
+Stored vs before after = (es : List Entry) → Telegram paper es → vs ≡ values es → after ≡ bytesOver (accepted es) before

@@ -1,0 +1,39 @@
+// The packets that came before, each kept as 4 times its NID_PACKET and its Q_DIR.
+ghost use mathlib.Core.Path.{_≡_};
+ghost use mathlib.Core.Bool.{not, _&&_};
+ghost use Prim.Native.Nat.{_/_, _%_};
+ghost use lib.Dec.{eqb};
+ghost use lib.ListN.{take};
+ghost use Rattle.format.specs.Rules.{among};
+ghost use Rattle.states.specs.Seen.{packetsIn};
+
+// Whether a packet with this NID_PACKET and Q_DIR collides with one of the first n of seen.
+pub fn collides(seen: &[u16], n: usize, id: u64, dir: u64) -> bool
+    ensures { λ r. ⌜ r ≡ (not (eqb id 44) && among id dir (packetsIn (take n (now (seen .entry))))) ⌝ }
+{
+    if id == 44 {
+        return false;
+    }
+    let mut i = 0;
+    while i < n {
+        if seen.len() <= i {
+            return false;
+        }
+        if is_packet(seen[i], id, dir) {
+            return true;
+        }
+        i += 1;
+    }
+    false
+}
+
+// Whether what is kept is the packet with this NID_PACKET and Q_DIR.
+fn is_packet(kept: u16, id: u64, dir: u64) -> bool
+    ensures { λ r. ⌜ r ≡ (eqb id (kept / 4) && eqb dir (kept % 4)) ⌝ }
+{
+    let x = kept as u64;
+    if id != x / 4 {
+        return false;
+    }
+    dir == x % 4
+}

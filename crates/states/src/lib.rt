@@ -1,0 +1,109 @@
+// Where a telegram stands between two fields: the types of it, what they stand for and what is answered (specs/), all that is proved of that
+// (proofs/), and the functions over it that need no table.
+pub mod codes;
+mod earlier;
+mod packet;
+mod short;
+mod size;
+mod views;
+
+use bits::Cursor;
+use distance::Scale;
+pub use earlier::collides;
+use format::Kind;
+pub use packet::closes;
+pub use packet::noted;
+pub use packet::refused;
+pub use short::slight;
+pub use short::unread;
+pub use size::sized;
+pub use views::counts;
+
+// What is to be sent: the items of row node; at the end of their group, the group left times more; and at the end of the group
+// around that, that group outer times more.
+pub struct Todo {
+    pub node: usize,
+    pub left: u64,
+    pub outer: u64,
+}
+
+// What is to be sent after a value, or that it is the end mark.
+pub enum Ahead {
+    On(Todo),
+    Mark,
+}
+
+// Whether the field that is due belongs to the header, to a packet or to the CTCS packet inside one.
+pub enum Level {
+    Header,
+    Packet,
+    User,
+}
+
+// Where a telegram stands before its next field, as `State` and `Context` of the crate format, but for the packets before.
+pub struct State {
+    pub at: usize,
+    pub todo: Todo,
+    pub level: Level,
+    pub start: usize,
+    pub id: u64,
+    pub dir: u64,
+    pub long: u64,
+    pub userstart: usize,
+    pub userlong: u64,
+    pub pig: u64,
+}
+
+// What a value leads to.
+pub enum Outcome {
+    Go(State),
+    Over,
+    Breaks(Kind),
+}
+
+// Whether a value keeps the rule of its field.
+pub enum Verdict {
+    Fine,
+    Broken(Kind),
+}
+
+// Where a telegram stands behind fields that were gone past: what is to be sent there, the cursor, and how many fields they were.
+pub struct Reach {
+    pub todo: Todo,
+    pub cursor: Cursor,
+    pub fields: usize,
+}
+
+// Where a value leads that needs nothing of the telegram's state, or that it needs more.
+pub enum Easy {
+    To(Todo),
+    Not,
+}
+
+// Where what is taken leads, if it keeps every rule; and else, that its fields have to be looked at one by one.
+pub enum Begun {
+    To(State),
+    Not,
+}
+
+// As it is sent; as the scale of what follows; as a distance.
+pub enum View {
+    Kept,
+    Scales,
+    Measures,
+}
+
+// What is sent for a value, and the scales that hold from there on: the telegram's, and the normal form's.
+pub struct Retold {
+    pub value: u64,
+    pub from: Scale,
+    pub to: Scale,
+}
+
+// What a field says to telling the distances up to the next scale in metres: nothing against it, that it cannot be, or that the next
+// scale is here.
+pub enum Look {
+    Passes,
+    Fails,
+    Ends,
+}

@@ -1,0 +1,150 @@
+// What later rules go by: what a packet's values leave for them, and whether a packet that ends is as long as it said.
+ghost use mathlib.Core.Path.{_≡_};
+ghost use mathlib.Core.List.{List};
+ghost use Prim.Native.Nat.{_-_};
+ghost use Rattle.format.specs.Rules.{Earlier, packetPlace};
+ghost use Rattle.format.specs.Rules as rules;
+ghost use Rattle.format.specs.declared.Answer.the-variants.{Refused};
+ghost use Rattle.states.specs.Machine.{Noted, contextOf, levelOf, view};
+use crate::Level;
+use crate::State;
+use crate::codes::DIRECTION;
+use crate::codes::PACKET;
+use crate::codes::PIG;
+use crate::codes::SIZE;
+use crate::codes::USER;
+use format::Answer;
+use format::Kind;
+use format::Refusal;
+
+// ---- what a value leaves for later rules
+
+fn directed(s: State, v: u64) -> State
+    ensures { λ r. ⌜ Noted s 9 v r ⌝ }
+{
+    let l = s.level;
+    let mut r = s;
+    match l {
+        Level::Header => r,
+        Level::Packet => {
+            r.dir = v;
+            r
+        }
+        Level::User => r,
+    }
+}
+
+fn measured(s: State, v: u64) -> State
+    ensures { λ r. ⌜ Noted s 3 v r ⌝ }
+{
+    let l = s.level;
+    let mut r = s;
+    match l {
+        Level::Header => r,
+        Level::Packet => {
+            r.long = v;
+            r
+        }
+        Level::User => {
+            r.userlong = v;
+            r
+        }
+    }
+}
+
+// What the rules after a field with the code c go by.
+pub fn noted(s: State, c: u32, v: u64) -> State
+    ensures { λ r. ⌜ Noted s c v r ⌝ }
+{
+    if c == DIRECTION {
+        return directed(s, v);
+    }
+    if c == SIZE {
+        return measured(s, v);
+    }
+    let t = s.todo;
+    if c == PACKET {
+        return State {
+            at: s.at,
+            todo: t,
+            level: Level::Packet,
+            start: s.start,
+            id: v,
+            dir: 0,
+            long: 0,
+            userstart: 0,
+            userlong: 0,
+            pig: s.pig,
+        };
+    }
+    if c == USER {
+        return State {
+            at: s.at,
+            todo: t,
+            level: Level::User,
+            start: s.start,
+            id: s.id,
+            dir: s.dir,
+            long: s.long,
+            userstart: s.at,
+            userlong: 0,
+            pig: s.pig,
+        };
+    }
+    let mut r = s;
+    if c == PIG {
+        r.pig = v;
+    }
+    r
+}
+
+// ---- a packet's end
+
+// Every packet that ends here is as long as its L_PACKET says, the inner one tested first.
+pub fn closes(s: State) -> bool
+    ensures { λ r. ⌜ ((l : List Earlier) → r ≡ rules.closes (s .at) (contextOf l s) (levelOf (s .level))) ⌝ }
+{
+    let l = s.level;
+    match l {
+        Level::Header => true,
+        Level::Packet => since(s.at, s.start) == s.long,
+        Level::User => {
+            if since(s.at, s.userstart) != s.userlong {
+                return false;
+            }
+            since(s.at, s.start) == s.long
+        }
+    }
+}
+
+// The bits from one place to another, none where the other is before.
+fn since(at: usize, from: usize) -> u64
+    ensures { λ r. ⌜ r ≡ at - from ⌝ }
+{
+    if at < from {
+        return 0;
+    }
+    (at - from) as u64
+}
+
+// ---- a refusal
+
+// The refusal at the field that is due, which holds v.
+pub fn refused(kind: Kind, s: State, v: u64) -> Answer
+    ensures { λ r. ⌜ ((l : List Earlier) → r ≡ Refused (record { kind = kind; place = packetPlace kind (view l s) v })) ⌝ }
+{
+    let place = place(kind, s, v);
+    Answer::Refused(Refusal { kind, place })
+}
+
+// Its place.
+fn place(k: Kind, s: State, v: u64) -> usize
+    ensures { λ r. ⌜ ((l : List Earlier) → r ≡ packetPlace k (view l s) v) ⌝ }
+{
+    let l = s.level;
+    match l {
+        Level::Header => 0,
+        Level::Packet => s.start,
+        Level::User => s.start,
+    }
+}
