@@ -83,10 +83,13 @@ fn scan(s: &[u8], n: usize) -> Answer
 {
     let rows = table::rows();
     let mut seen = [0u16; 416];
-    match header(s, n) {
-        Begun::To(after) => walk(&rows, s, n, &mut seen, after, 10),
-        Begun::Not => walk(&rows, s, n, &mut seen, begin(), 0),
+    let mut st = begin();
+    let mut count: usize = 0;
+    if let Begun::To(after) = header(s, n) {
+        st = after;
+        count = 10;
     }
+    walk(&rows, s, n, &mut seen, st, count)
 }
 
 // Goes on from there, where so many fields were before, up to the first broken rule or the end mark, each field through the cursor: those that no
