@@ -1,6 +1,6 @@
 -- What the answers of the check and of the reader say: which number is given when, that an accepted telegram is tiled, and what the lent
 -- run then holds. For any terms. Assumes nothing.
-use mathlib.Core.Bool.{Bool, true, false, cond, not, _&&_}
+use mathlib.Core.Bool.{Bool, true, false, cond, _&&_}
 use mathlib.Core.List.{List, [], _∷_, _++_}
 use mathlib.Core.Logic.{_↔_, _⊎_, inl, inr}
 use mathlib.Core.Option.{Option, some, none}
@@ -17,11 +17,10 @@ use Rattle.bits.specs.Bits.{digits, valueOf, bitsOf, bytesFor, Below}
 use Rattle.bits.proofs.Digits.{length-digits}
 use Rattle.bits.proofs.Bytes.{below-bitsOf, below-take, length-bitsOf}
 use Rattle.format.specs.Fields.Rule.{size}
-use Rattle.format.specs.Packets.Items.{end}
 use Rattle.format.specs.Refusals.{numberOf}
-use Rattle.format.specs.Rules.{Terms, State, begun, field, past, next, known, broken, onward, verdict, step}
+use Rattle.format.specs.Rules.{Terms, State, begun, field, past, next, broken, onward, verdict, step}
 use Rattle.format.specs.Rules.Next.{breaks}
-use Rattle.format.specs.Telegrams.{Entry, Result, Telegram, bits, values, valuesIn, bitsIn, read, gotIf, fromBits, refusal}
+use Rattle.format.specs.Telegrams.{Entry, Result, Telegram, bits, values, valuesIn, bitsIn, read, gotIf, fromBits}
 use Rattle.format.specs.Telegrams.Taken.{lacks}
 use Rattle.format.specs.Telegrams.Result.{accepted, refused}
 use Rattle.format.specs.declared.Kind.{Kind}

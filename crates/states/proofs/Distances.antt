@@ -1,11 +1,13 @@
 -- How a field counts, by its code in the table, and steps of a scale told in steps of another. Assumes nothing.
 use mathlib.Core.Path.{_≡_, refl, _∙_, sym, ap}
 use mathlib.Core.Bool.{Bool, true, false, cond}
-use mathlib.Core.List.{List, []}
+use mathlib.Core.List.{List, [], _∷_}
 use Prim.Native.Nat.{ℕ, zero, suc, _*_, _/_, _%_, _^_, _<_, _≤_}
+use native.Mathlib.Nat.{le-of-suc-le-suc, not-suc-le-zero}
 use native.Mathlib.Omega.{arith}
 use borrow.Author.Tests.{eq-eqb, ne-eqb, lt-ltb}
-use lib.Dec.{eqb, ltb}
+use lib.Dec.{eqb}
+use lib.ListN.{length, getD}
 use lib.Pow.{pow-mono}
 use Rattle.format.specs.Fields.{Sense, NID-PACKET, END}
 use Rattle.format.specs.Fields.Sense.{plain, scale, distance, textLength}
@@ -20,9 +22,8 @@ use Rattle.format.proofs.Rows.{distance-narrow, text-width}
 use Rattle.distance.specs.Distance.{numberOf, scaledBy, inDecimetres, inSteps, fitting}
 use Rattle.distance.specs.declared.Scale.{Scale}
 use Rattle.distance.specs.declared.Scale.the-variants.{Tenths, Metres, Tens}
-use Rattle.distance.specs.declared.Told.{Told}
-use Rattle.distance.specs.declared.Told.the-variants.{Whole, Not}
-use Rattle.states.specs.Machine.{senseOf}
+use Rattle.distance.specs.declared.Told.the-variants.{Whole}
+use Rattle.states.specs.Machine.{senses, senseOf}
 use Rattle.states.specs.Normaliser.{Viewed, viewIs, converted, inMetres}
 use Rattle.states.specs.declared.View.{View}
 use Rattle.states.proofs.Senses.{sense-is}
@@ -31,22 +32,16 @@ use Rattle.distance.specs.declared.Scaled.the-variants as scaling
 
 -- ---- how a field counts, by its code
 
+past-end : (ks : List Sense) (c : ℕ) → length ks ≤ c → getD ks c scale ≡ scale
+past-end [] c h = refl
+past-end (k ∷ ks) zero h = absurd (not-suc-le-zero h)
+past-end (k ∷ ks) (suc c) h = past-end ks c (le-of-suc-le-suc h)
+
 module _ (a b v : ℕ) (es : List Entry) where
   -- from code 11 on it is a scale
   pub view-scale : (c : ℕ) → 11 ≤ c → viewOf (senseOf c a b) v es ≡ scales
   unfolding senseOf
-  view-scale (suc (suc (suc (suc (suc (suc (suc (suc (suc (suc (suc c))))))))))) h = refl
-  view-scale (suc (suc (suc (suc (suc (suc (suc (suc (suc (suc zero)))))))))) h = absurd (omega arith)
-  view-scale (suc (suc (suc (suc (suc (suc (suc (suc (suc zero))))))))) h = absurd (omega arith)
-  view-scale (suc (suc (suc (suc (suc (suc (suc (suc zero)))))))) h = absurd (omega arith)
-  view-scale (suc (suc (suc (suc (suc (suc (suc zero))))))) h = absurd (omega arith)
-  view-scale (suc (suc (suc (suc (suc (suc zero)))))) h = absurd (omega arith)
-  view-scale (suc (suc (suc (suc (suc zero))))) h = absurd (omega arith)
-  view-scale (suc (suc (suc (suc zero)))) h = absurd (omega arith)
-  view-scale (suc (suc (suc zero))) h = absurd (omega arith)
-  view-scale (suc (suc zero)) h = absurd (omega arith)
-  view-scale (suc zero) h = absurd (omega arith)
-  view-scale zero h = absurd (omega arith)
+  view-scale c h = ap (λ k. viewOf k v es) (past-end (senses a b) c h)
 
   -- code 1 is a distance
   pub view-distance : (c : ℕ) → c ≡ 1 → viewOf (senseOf c a b) v es ≡ measures

@@ -7,7 +7,7 @@ use lib.Dec.{eqb}
 use lib.ListN.{take}
 use Rattle.bits.proofs.Once.{Once, equation-once}
 use Rattle.format.specs.Normal.{viewOf}
-use Rattle.format.specs.Rules.{Earlier, Context, packetPlace, among, noted, ruleOf}
+use Rattle.format.specs.Rules.{Earlier, Context, packetPlace, among}
 use Rattle.format.specs.Telegrams.{Entry}
 use Rattle.format.specs.declared.Answer.the-variants.{Refused}
 use Rattle.format.specs.declared.Kind.{Kind}

@@ -9,7 +9,7 @@ use borrow.Author.Tests.{ltb-true, le-leb, lt-leb}
 use lib.Dec.{ltb}
 use lib.ListN.{length, drop, getD, length-drop, drop-of-length-le}
 use lib.Seq.{drop-cons}
-use Rattle.format.specs.Rules.{Earlier, begun, paper, packetPlace}
+use Rattle.format.specs.Rules.{begun, paper, packetPlace}
 use Rattle.format.specs.Table.{fieldAt, words}
 use Rattle.format.specs.Telegrams.{valuesIn, fromValues, write}
 use Rattle.format.specs.Telegrams.Taken.{got, lacks}

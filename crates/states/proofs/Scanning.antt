@@ -16,10 +16,9 @@ use Rattle.bits.specs.declared.Taken.{Taken}
 use Rattle.bits.specs.declared.Taken.the-variants.{Field, Short}
 use Rattle.bits.proofs.Bytes.{length-bitsOf, below-bitsOf, below-take}
 use Rattle.bits.proofs.Fields.{IsField, taken, take-whole}
-use Rattle.format.specs.Rules.{Earlier, begun, due, past, paper, packetPlace}
-use Rattle.format.specs.Rules.Next.{over}
+use Rattle.format.specs.Rules.{begun, paper, packetPlace}
 use Rattle.format.specs.Table.{act, fieldAt, codeOf, words}
-use Rattle.format.specs.Telegrams.{all, bitsIn, fromBits, whole, read}
+use Rattle.format.specs.Telegrams.{bitsIn, fromBits, whole, read}
 use Rattle.format.specs.Telegrams.Taken.{got, lacks}
 use Rattle.format.specs.Telegrams.Result.{refused}
 use Rattle.format.specs.declared.Kind.{Kind}

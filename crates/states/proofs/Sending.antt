@@ -2,8 +2,7 @@
 use mathlib.Core.Path.{_≡_, sym, ap, _∙_}
 use mathlib.Core.List.{List, [], _∷_}
 use Prim.Native.Nat.{ℕ, _-_}
-use Rattle.format.specs.Normal.{View, viewOf, view, choose, decimetres, steps, best, put, normalUnder, normal}
-use Rattle.format.specs.Normal.View.{scales}
+use Rattle.format.specs.Normal.{View, viewOf, view, choose, decimetres, steps, best, put, normalUnder}
 use Rattle.format.specs.Rules.{due}
 use Rattle.format.specs.Table.{fieldAt}
 use Rattle.format.specs.Telegrams.{Entry, entry}

@@ -18,10 +18,9 @@ use Rattle.bits.proofs.Digits.{digits-valueOf-at}
 use Rattle.bits.proofs.Fields.{taken, below-fieldBits, length-fieldBits}
 use Rattle.distance.specs.Distance.{numberOf}
 use Rattle.distance.specs.declared.Scale.{Scale}
-use Rattle.format.specs.Normal.{View, viewOf, view, choose, decimetres, steps, best, put, normalUnder, normal}
+use Rattle.format.specs.Normal.{View, viewOf, view, choose, decimetres, steps, best, normalUnder, normal}
 use Rattle.format.specs.Normal.View.{kept, scales, measures}
 use Rattle.format.specs.Rules.{paper, due}
-use Rattle.format.specs.Packets.Items.{end}
 use Rattle.laws.proofs.Sources.{width-named}
 use Rattle.laws.proofs.Exchange.{scale-still}
 use Rattle.format.specs.Table.{fieldAt}

@@ -179,13 +179,14 @@ verdictOf (Broken k) = some k
 abbrev pub Ranged : Bool → Level → Option Kind
 Ranged b l = unless b (rules.forbidden (levelOf l))
 
--- the sense with a code and a range
+-- the senses with the codes 0 to 10, where a and b are the range
+abbrev pub senses : ℕ → ℕ → List Sense
+senses a b =
+    plain any ∷ distance ∷ textLength ∷ plain size ∷ plain pig ∷ plain total ∷ plain radio ∷ plain packet ∷ plain user ∷ plain direction ∷ plain (within a b) ∷ []
+
+-- the sense with a code; from 11 on it is a scale
 unfoldable pub senseOf : ℕ → ℕ → ℕ → Sense
-senseOf c a b =
-    getD
-    (plain any ∷ distance ∷ textLength ∷ plain size ∷ plain pig ∷ plain total ∷ plain radio ∷ plain packet ∷ plain user ∷ plain direction ∷ plain (within a b) ∷ [])
-    c
-    scale
+senseOf c a b = getD (senses a b) c scale
 
 -- of a Q_DIR, where twice says whether its packet collides with an earlier one
 abbrev pub Directed : State → ℕ → Bool → Verdict → Type 0

@@ -1,5 +1,4 @@
 -- `states::views::counts` meets its contract: a case for each code that counts. Assumes nothing.
-use Prim.Native.Nat.{_<_}
 use native.Mathlib.Omega.{arith}
 use Rattle.states.proofs.Distances.{view-scale, view-distance, view-limited, view-unlimited, view-plain}
 use Rattle.states.proofs.views.counts.Statement.{statement}

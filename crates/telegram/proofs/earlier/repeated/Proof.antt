@@ -1,6 +1,6 @@
 -- `telegram::earlier::repeated` meets its contract: the test of those before, at a packet's Q_DIR. Assumes nothing.
 use borrow.Author.Needs.{needs}
-use borrow.Author.Tests.{not-true, not-false}
+use borrow.Author.Tests.{not-true}
 use denote.Ref.{now}
 use Rattle.states.proofs.Directions.{collides-as-kept, absurd-flag}
 use Rattle.telegram.proofs.earlier.repeated.Statement.{statement}
