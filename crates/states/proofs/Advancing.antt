@@ -13,7 +13,7 @@ use Rattle.format.proofs.Rows.{three-up, end-jump, up-in, up-repeats, group-sta
 use Rattle.states.specs.Machine.{todoOf, Tidy, Moved, Turned, Advanced}
 use Rattle.states.specs.declared.Todo.{Todo}
 use Rattle.states.specs.declared.Ahead.the-variants.{On, Mark}
-use Rattle.states.proofs.Moves.{todo-end, todo-nest, todo-next, start-todo, follows-next, moves-on, turns-again}
+use Rattle.states.proofs.Moves.{todo-end, todo-nest, todo-next, start-todo, follows-next, moves-on, turns-none, turns-again}
 
 -- no group holds a group that holds a group: after two turns it is no group's end
 two-turns : (t r s : Todo) → t .node < 213 → Turned t r → Turned r s → Tidy s
@@ -97,6 +97,10 @@ module _ (t : Todo) (v : ℕ) (d : Tidy t) where
   -- and at no end, that is all
   pub advances-turned : (m r : Todo) → 1 < act (t .node) → Moved t v m → Turned m r → (act (r .node) ≡ 0 → ⊥) → Advanced t v (On r)
   advances-turned m r a p f n = advances-on m r r a p f (stays r (f .inside) n)
+
+  -- nor at a packet's end
+  pub advances-ending : (m r : Todo) → 1 < act (t .node) → Moved t v m → Turned m r → act (r .node) ≡ 0 → jump (r .node) ≡ 0 → Advanced t v (On r)
+  advances-ending m r a p f z j = advances-on m r r a p f (turns-none r 0 (f .inside) z (sym j) refl)
 
   advances-moved : (m : Todo) → 1 < act (t .node) → Moved t v m → (act (m .node) ≡ 0 → ⊥) → Advanced t v (On m)
   advances-moved m a p n = advances-turned m m a p (stays m (p .inside) n) n

@@ -14,11 +14,10 @@ use lib.ListN.{length}
 use Rattle.format.specs.Rules.{broken, unless, forbidden}
 use Rattle.format.specs.Table.{act, jump, fieldAt, codeOf, lowOf, highOf}
 use Rattle.laws.proofs.Told.{and-two}
-use Rattle.states.specs.Machine.{contextOf, levelOf, ruleAt, Tidy, Idle, later, Slight, slight, reached, Advanced, Noted, Sound, Judged, Entered}
+use Rattle.states.specs.Machine.{contextOf, levelOf, ruleAt, Tidy, Idle, later, Slight, slight, reached, Advanced, Noted, Sound, Judged, Settled, Entered}
 use Rattle.states.specs.Seen.{Passed, Noticed}
 use Rattle.states.specs.declared.State.{State}
 use Rattle.states.specs.declared.Outcome.{Outcome}
-use Rattle.states.specs.declared.Outcome.the-variants.{Go}
 use Rattle.states.specs.declared.Todo.{Todo}
 use Rattle.states.specs.declared.Ahead.the-variants.{On}
 use Rattle.states.specs.declared.Verdict.the-variants.{Fine}
@@ -26,7 +25,7 @@ use Rattle.states.proofs.Advancing.{advances-next, again-field, advance
 use Rattle.states.proofs.Directions.{directs-not, held-none, passes, notices, absurd-flag}
 use Rattle.states.proofs.Noting.{nothing}
 use Rattle.states.proofs.Senses.{judge-free, judge-range, range-in}
-use Rattle.states.proofs.Stepping.{settled-goes, entered-on, stepped-goes}
+use Rattle.states.proofs.Stepping.{entered-on, stepped-goes}
 
 -- what follows a field that steers nothing, and that it is a field
 module _ (t : Todo) (d : Tidy t) (i : Idle t) (v : ℕ) where
@@ -73,7 +72,7 @@ slight-so k v c a b ec ea eb h = by-test (leb c 2) refl h
         let x = ltb-true 9 c (d .0) in
         record { unkept = λ l. omega arith; allowed = λ l. (rw (← ea) (leb-true a v (r .0)), rw (← eb) (leb-true v b (r .1))) }
 
-module _ (s : State) (d : Sound s) (v : ℕ) (q : Slight (s .todo .node) v) {u : Todo} (a : Advanced (s .todo) v (On u)) (f : act (u .node) ≡ 0 → ⊥)
+module _ (s : State) (d : Sound s) (v : ℕ) (q : Slight (s .todo .node) v) {u : Todo} (a : Advanced (s .todo) v (On u))
     {x : ℕ} (ex : x ≡ s .at + fieldAt (s .todo .node) .width) where
   abbrev code : ℕ
   code = codeOf (fieldAt (s .todo .node) .sense)
@@ -90,11 +89,11 @@ module _ (s : State) (d : Sound s) (v : ℕ) (q : Slight (s .todo .node) v) {u :
       nothing s v code (kept-not 9 (omega arith) (omega arith)) (kept-not 3 (omega arith) (omega arith)) (kept-not 7 (omega arith) (omega arith))
       (kept-not 8 (omega arith) (omega arith)) (kept-not 4 (omega arith) (omega arith))
 
-  sound-after : Sound after
+  pub sound-after : Sound after
   sound-after = record { tidy = a .tidy; first = omega (arith, d .first); second = omega (arith, d .second); small = d .small }
 
-  pub slight-entered : Entered s v (Go after)
-  slight-entered = entered-on s v u s x (Go after) a notes ex (settled-goes after sound-after f)
+  pub slight-entered : {r : Outcome} → Settled after r → Entered s v r
+  slight-entered {r} t = entered-on s v u s x r a notes ex t
 
   pub slight-judged : Judged s v false Fine
   slight-judged p l h = by (decLe 3 code)

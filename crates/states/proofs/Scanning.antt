@@ -1,6 +1,6 @@
 -- What the loop that checks a telegram goes by: the driver over bits, through the cursor. Assumes nothing.
 use mathlib.Core.Path.{_≡_, refl, sym, ap, _∙_, subst}
-use mathlib.Core.Bool.{false}
+use mathlib.Core.Bool.{true, false}
 use mathlib.Core.List.{List, []}
 use Prim.Native.Nat.{ℕ, _+_, _*_, _-_, _^_, _≤_, _<_}
 use native.Mathlib.Omega.{arith}
@@ -16,7 +16,7 @@ use Rattle.bits.specs.declared.Taken.{Taken}
 use Rattle.bits.specs.declared.Taken.the-variants.{Field, Short}
 use Rattle.bits.proofs.Bytes.{length-bitsOf, below-bitsOf, below-take}
 use Rattle.bits.proofs.Fields.{IsField, taken, take-whole}
-use Rattle.format.specs.Rules.{begun, paper, packetPlace}
+use Rattle.format.specs.Rules.{Earlier, begun, closes, paper, packetPlace}
 use Rattle.format.specs.Table.{act, fieldAt, codeOf, words}
 use Rattle.format.specs.Telegrams.{bitsIn, fromBits, whole, read}
 use Rattle.format.specs.Telegrams.Taken.{got, lacks}
@@ -25,7 +25,7 @@ use Rattle.format.specs.declared.Kind.{Kind}
 use Rattle.format.specs.declared.Kind.the-variants.{Ended, Trailing}
 use Rattle.format.specs.declared.Answer.the-variants.{Accepted}
 use Rattle.laws.proofs.Sources.{Sent, from-bits, width-positive}
-use Rattle.states.specs.Machine.{view, Beginning, Advanced, later, Drifted, Slight, reached, Judged, Entered}
+use Rattle.states.specs.Machine.{view, contextOf, levelOf, Beginning, Sound, Advanced, later, Drifted, Slight, reached, freshAt, Judged, Settled, Entered}
 use Rattle.states.specs.Machine.Drifted.{nothing, field}
 use Rattle.states.specs.Reader.{answerOf}
 use Rattle.states.specs.declared.State.{State}
@@ -34,10 +34,10 @@ use Rattle.states.specs.declared.Ahead.the-variants.{On}
 use Rattle.states.specs.declared.Verdict.the-variants.{Fine}
 use Rattle.states.specs.declared.Outcome.{Outcome}
 use Rattle.states.specs.declared.Outcome.the-variants.{Go, Over, Breaks}
-use Rattle.states.proofs.Stepping.{width-in}
+use Rattle.states.proofs.Stepping.{width-in, settled-goes, settled-fresh}
 use Rattle.states.specs.Seen.{Passed, Noticed}
 use Rattle.states.proofs.Driving.{same-place, Drives, drives-first, due-is, here, refused-lacking, refused-broken, accepted-mark, refused-trailing, mark-counted, moves, drives-on}
-use Rattle.states.proofs.Idling.{idle-ahead, slight-free, fine-passed, fine-noticed, slight-judged, slight-not, slight-entered}
+use Rattle.states.proofs.Idling.{idle-ahead, slight-free, fine-passed, fine-noticed, slight-judged, slight-not, slight-entered, sound-after}
 use Rattle.format.specs.Fields as fields
 use Rattle.format.specs.Rules as rules
 
@@ -210,17 +210,30 @@ module _ {s : List ℕ} {n : ℕ} {rows seen : List ℕ} {met : ℕ} {st : State
       (fine-noticed st (i .drives .sound) v j nine seen met (omega (arith, i .drives .noted, i .drives .long, i .within, i .low)) (fits i ew e h))
 
   -- and of which nothing is kept
-  module _ (q : Slight (st .todo .node) v) {u : Todo} (a : Advanced (st .todo) v (On u)) (f : act (u .node) ≡ 0 → ⊥) where
+  module _ (q : Slight (st .todo .node) v) {u : Todo} (a : Advanced (st .todo) v (On u)) where
     ends-at : next .at ≡ st .at + fieldAt (st .todo .node) .width
     ends-at = let g = is-field i ew e h in omega (arith, g .past, i .here)
 
-    pub scans-slight : Scans s n rows seen met (reached st (next .at) u) next (count + 1)
-    scans-slight =
-        scans-fine (slight-judged st (i .drives .sound) v q a f ends-at) (slight-not st (i .drives .sound) v q a f ends-at)
-        (slight-entered st (i .drives .sound) v q a f ends-at)
+    scans-past : {r : State} → Settled (reached st (next .at) u) (Go r) → Scans s n rows seen met r next (count + 1)
+    scans-past z =
+        scans-fine (slight-judged st (i .drives .sound) v q a ends-at) (slight-not st (i .drives .sound) v q a ends-at)
+        (slight-entered st (i .drives .sound) v q a ends-at z)
+
+    sound-there : Sound (reached st (next .at) u)
+    sound-there = sound-after st (i .drives .sound) v q a ends-at
+
+    -- to a field
+    pub scans-slight : (act (u .node) ≡ 0 → ⊥) → Scans s n rows seen met (reached st (next .at) u) next (count + 1)
+    scans-slight f = scans-past (settled-goes (reached st (next .at) u) sound-there f)
+
+    -- to the end of a packet that is as long as it says
+    pub scans-closed : act (u .node) ≡ 0
+        → ((l : List Earlier) → closes (next .at) (contextOf l (reached st (next .at) u)) (levelOf (st .level)) ≡ true)
+        → Scans s n rows seen met (freshAt (next .at) (st .pig)) next (count + 1)
+    scans-closed z k = scans-past (settled-fresh (reached st (next .at) u) sound-there z k)
 
     pub less-slight : n - next .at < n - st .at
-    less-slight = omega (arith, ends-at, scans-slight .within, width-positive (fieldAt (st .todo .node)))
+    less-slight = let g = is-field i ew e h in omega (arith, ends-at, g .within, width-positive (fieldAt (st .todo .node)))
 
 -- past fields that no rule reads
 module _ {s : List ℕ} {n : ℕ} {rows seen : List ℕ} {met : ℕ} {st : State} {c : Cursor} {count : ℕ} (i : Scans s n rows seen met st c count) where

@@ -12,10 +12,9 @@ use Rattle.format.specs.Rules.Next.{go, breaks}
 use Rattle.format.specs.Table.{act, fieldAt, rowAt, codeOf, lowOf, highOf}
 use Rattle.format.specs.declared.Kind.{Kind}
 use Rattle.format.specs.declared.Kind.the-variants.{Length}
-use Rattle.states.specs.Machine.{todoOf, contextOf, levelOf, ruleAt, Advanced, Noted, Judged, Sound, Settled, Entered, Stepped}
+use Rattle.states.specs.Machine.{todoOf, freshAt, contextOf, levelOf, ruleAt, Advanced, Noted, Judged, Sound, Settled, Entered, Stepped}
 use Rattle.states.specs.declared.Todo.{Todo}
 use Rattle.states.specs.declared.Ahead.the-variants.{On, Mark}
-use Rattle.states.specs.declared.Level.the-variants.{Packet}
 use Rattle.states.specs.declared.State.{State}
 use Rattle.states.specs.declared.Outcome.{Outcome}
 use Rattle.states.specs.declared.Outcome.the-variants.{Go, Over, Breaks}
@@ -57,7 +56,7 @@ module _ (s : State) (d : Sound s) where
     settled-breaks h = record { right = λ l. settled-by false l (h l); kept = tt }
 
     pub settled-fresh : ((l : List Earlier) → closes (s .at) (contextOf l s) (levelOf (s .level)) ≡ true)
-        → Settled s (Go (record { at = s .at; todo = record { node = 0; left = 0; outer = 0 }; level = Packet; start = s .at; id = 0; dir = 0; long = 0; userstart = 0; userlong = 0; pig = s .pig }))
+        → Settled s (Go (freshAt (s .at) (s .pig)))
     unfolding rowAt
     settled-fresh h = record {
       right = λ l. settled-by true l (h l) ∙ rw none-left;

@@ -27,7 +27,7 @@ use Rattle.states.specs.declared.Verdict.the-variants.{Fine, Broken}
 use Rattle.states.specs.declared.Ahead.{Ahead}
 use Rattle.states.specs.declared.Ahead.the-variants.{On, Mark}
 use Rattle.states.specs.declared.Easy.{Easy}
-use Rattle.states.specs.declared.Easy.the-variants.{To, Not}
+use Rattle.states.specs.declared.Easy.the-variants.{To, Ends, Not}
 use Rattle.format.specs.Rules as rules
 
 -- the array is the table of rows, and k is one of them
@@ -128,9 +128,10 @@ pub record Slight (k v : ℕ) : Type 0 where
 abbrev pub slight : ℕ → ℕ → ℕ → ℕ → Bool
 slight c low high v = leb c 2 || ltb 9 c && (leb low v && leb v high)
 
--- where such a value leads, if to a field
+-- where such a value leads, if to a field or to the packet's end
 abbrev pub Eased : Todo → ℕ → Easy → Type 0
 Eased t v (To u) = Slight (t .node) v × Advanced t v (On u) × (act (u .node) ≡ 0 → ⊥)
+Eased t v (Ends u) = Slight (t .node) v × Advanced t v (On u) × (act (u .node) ≡ 0)
 Eased t v Not = Unit
 
 -- the state at a position, with t to be sent
@@ -147,6 +148,22 @@ reached s at t =
       userstart = s .userstart;
       userlong = s .userlong;
       pig = s .pig;
+    }
+
+-- the state before the next packet, or the end mark
+abbrev pub freshAt : ℕ → ℕ → State
+freshAt at m =
+    record {
+      at = at;
+      todo = record { node = 0; left = 0; outer = 0 };
+      level = Packet;
+      start = at;
+      id = 0;
+      dir = 0;
+      long = 0;
+      userstart = 0;
+      userlong = 0;
+      pig = m;
     }
 
 -- ---- the context

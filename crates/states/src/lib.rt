@@ -74,9 +74,10 @@ pub struct Reach {
     pub fields: usize,
 }
 
-// Where a value leads that needs nothing of the telegram's state, or that it needs more.
+// Where a value leads of which nothing is kept: to a field, to the packet's end, or that more has to be known.
 pub enum Easy {
     To(Todo),
+    Ends(Todo),
     Not,
 }
 

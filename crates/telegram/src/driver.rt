@@ -104,7 +104,7 @@ pub(crate) fn drift(rows: &[u32; 213], n: usize, told: bool, from: Todo, start: 
     }
 }
 
-// What is to be sent after a value that keeps its rule and of which nothing is kept, if that is a field.
+// What is to be sent after a value that keeps its rule and of which nothing is kept, if that is a field or the packet's end.
 pub(crate) fn ease(rows: &[u32; 213], t: Todo, v: u64) -> Easy
     requires { ⌜ (now rows ≡ words) × Tidy t ⌝ }
     ensures { λ r. ⌜ Eased t v r ⌝ }
@@ -117,8 +117,11 @@ pub(crate) fn ease(rows: &[u32; 213], t: Todo, v: u64) -> Easy
         return Easy::Not;
     }
     let u = turned(rows, moved(rows, t, v));
-    if act(rows, u.node) == END {
-        return Easy::Not;
+    if act(rows, u.node) != END {
+        return Easy::To(u);
     }
-    Easy::To(u)
+    if jump(rows, u.node) == 0 {
+        return Easy::Ends(u);
+    }
+    Easy::Not
 }

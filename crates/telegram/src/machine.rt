@@ -1,6 +1,7 @@
 // The machine that follows document 01 field by field. `step` is the definition `step` of the crate format; what a state stands for there
 // is said in specs/Machine.antt.
-ghost use Rattle.states.specs.Machine.{Settling, Settled, Stepping, Entered, Stepped};
+ghost use mathlib.Core.Path.{_≡_};
+ghost use Rattle.states.specs.Machine.{freshAt, Settling, Settled, Stepping, Entered, Stepped};
 use crate::rows::act;
 use crate::rows::code;
 use crate::rows::width;
@@ -32,23 +33,30 @@ fn settled(rows: &[u32; 213], s: State) -> Outcome
     if !closes(s) {
         return Outcome::Breaks(Kind::Length);
     }
+    Outcome::Go(fresh(s.at, s.pig))
+}
+
+// Before the next packet, or the end mark.
+pub(crate) fn fresh(at: usize, pig: u64) -> State
+    ensures { λ r. ⌜ r ≡ freshAt at pig ⌝ }
+{
     let none = Todo {
         node: 0,
         left: 0,
         outer: 0,
     };
-    Outcome::Go(State {
-        at: s.at,
+    State {
+        at,
         todo: none,
         level: Level::Packet,
-        start: s.at,
+        start: at,
         id: 0,
         dir: 0,
         long: 0,
         userstart: 0,
         userlong: 0,
-        pig: s.pig,
-    })
+        pig,
+    }
 }
 
 // What follows a value that keeps its rule.

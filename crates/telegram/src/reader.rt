@@ -18,6 +18,7 @@ use crate::driver::turn;
 use crate::earlier::note;
 use crate::head::head;
 use crate::head::header;
+use crate::machine::fresh;
 use crate::rows::width;
 use crate::state::begin;
 use crate::todo::advance;
@@ -32,6 +33,7 @@ use states::Easy;
 use states::Outcome;
 use states::State;
 use states::Todo;
+use states::closes;
 use states::refused;
 use states::sized;
 
@@ -127,11 +129,24 @@ fn walk(
         let Taken::Field(v, next) = c.take(s, n, width(rows, t.node)) else {
             return refused(Kind::Ended, st, 0);
         };
-        if let Easy::To(u) = ease(rows, t, v) {
-            st.at = next.at;
-            st.todo = u;
-            count += 1;
-            continue;
+        match ease(rows, t, v) {
+            Easy::To(u) => {
+                st.at = next.at;
+                st.todo = u;
+                count += 1;
+                continue;
+            }
+            Easy::Ends(u) => {
+                let mut past = st;
+                past.at = next.at;
+                past.todo = u;
+                if closes(past) {
+                    st = fresh(next.at, st.pig);
+                    count += 1;
+                    continue;
+                }
+            }
+            Easy::Not => {}
         }
         match turn(rows, seen, met, st, v) {
             Outcome::Breaks(kind) => {

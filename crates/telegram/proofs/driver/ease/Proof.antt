@@ -3,7 +3,7 @@ use mathlib.Core.Path.{_∙_, sym}
 use native.Mathlib.Omega.{arith}
 use borrow.Author.Needs.{needs}
 use borrow.Author.Tests.{not-false}
-use Rattle.states.proofs.Advancing.{advances-turned}
+use Rattle.states.proofs.Advancing.{advances-turned, advances-ending}
 use Rattle.states.proofs.Idling.{slight-so}
 use Rattle.telegram.proofs.driver.ease.Statement.{statement}
 use Rattle.telegram.proofs.driver.ease.Tie as tie
@@ -39,15 +39,27 @@ act-requires-2 : tie.Need-act-requires-2
 act-requires-2 c κs = record { table = c .before .before .before .before .before .before .before .before .before .pre .0; inside = c .turned .ensures .inside }
 
 returns-3 : tie.Need-returns-3
-returns-3 c = search needs
+returns-3 c =
+    let z = c .before .before .before .before .if2 .left in (
+      slight-so (c .before .before .before .before .before .before .before .before .before .before .before .args .t .node) (c .before .before .before .before .before .before .before .before .before .before .before .args .v) _ _ _ (c .before .before .before .before .before .before .before .before .before .before .code .ensures) (c .before .before .before .before .before .before .before .before .before .low .ensures) (c .before .before .before .before .before .before .before .before .high .ensures) (sym (c .before .before .before .before .before .before .before .slight .ensures) ∙ not-false _ (c .before .before .before .before .before .before .if1 .left)),
+      advances-turned _ _ (c .before .before .before .before .before .before .before .before .before .before .before .pre .1) _ _ (omega (arith, c .before .before .before .before .before .act .ensures)) (c .before .before .before .moved .ensures) (c .before .before .turned .ensures) (λ e. c .if3 .taken (c .before .act2 .ensures ∙ e)),
+      λ e. c .if3 .taken (c .before .act2 .ensures ∙ e),
+    )
+
+jump-requires : tie.Need-jump-requires
+jump-requires c κs = record { table = c .before .before .before .before .before .before .before .before .before .before .before .pre .0; inside = c .before .before .turned .ensures .inside }
 
 returns-4 : tie.Need-returns-4
 returns-4 c =
-    let z = c .before .before .before .before .if2 .left in (
-      slight-so (c .before .before .before .before .before .before .before .before .before .before .before .args .t .node) (c .before .before .before .before .before .before .before .before .before .before .before .args .v) _ _ _ (c .before .before .before .before .before .before .before .before .before .before .code .ensures) (c .before .before .before .before .before .before .before .before .before .low .ensures) (c .before .before .before .before .before .before .before .before .high .ensures) (sym (c .before .before .before .before .before .before .before .slight .ensures) ∙ not-false _ (c .before .before .before .before .before .before .if1 .left)),
-      advances-turned _ _ (c .before .before .before .before .before .before .before .before .before .before .before .pre .1) _ _ (omega (arith, c .before .before .before .before .before .act .ensures)) (c .before .before .before .moved .ensures) (c .before .before .turned .ensures) (λ e. c .if3 .left (c .before .act2 .ensures ∙ e)),
-      λ e. c .if3 .left (c .before .act2 .ensures ∙ e),
+    let z = c .before .before .before .before .before .before .if2 .left in
+    let e = sym (c .before .before .before .act2 .ensures) ∙ c .before .before .if3 .left in (
+      slight-so (c .before .before .before .before .before .before .before .before .before .before .before .before .before .args .t .node) (c .before .before .before .before .before .before .before .before .before .before .before .before .before .args .v) _ _ _ (c .before .before .before .before .before .before .before .before .before .before .before .before .code .ensures) (c .before .before .before .before .before .before .before .before .before .before .before .low .ensures) (c .before .before .before .before .before .before .before .before .before .before .high .ensures) (sym (c .before .before .before .before .before .before .before .before .before .slight .ensures) ∙ not-false _ (c .before .before .before .before .before .before .before .before .if1 .left)),
+      advances-ending _ _ (c .before .before .before .before .before .before .before .before .before .before .before .before .before .pre .1) _ _ (omega (arith, c .before .before .before .before .before .before .before .act .ensures)) (c .before .before .before .before .before .moved .ensures) (c .before .before .before .before .turned .ensures) e (sym (c .before .jump .ensures) ∙ c .if4 .taken),
+      e,
     )
+
+returns-5 : tie.Need-returns-5
+returns-5 c = search needs
 
 pub ease-spec : {M : Type 1} → statement M
 ease-spec =
@@ -64,4 +76,6 @@ ease-spec =
     turned-requires
     act-requires-2
     returns-3
-    returns-4)
+    jump-requires
+    returns-4
+    returns-5)

@@ -20,10 +20,13 @@ returns-2 c =
     let a = c .before .before .before .before .before in
     settled-breaks (a .args .s) (a .pre .sound) (sym (c .before .before .before .act .ensures) ∙ c .before .before .if1 .left) (λ l. sym (c .before .closes .ensures l) ∙ not-true _ (c .if2 .taken))
 
+fresh-requires : tie.Need-fresh-requires
+fresh-requires c κs = search needs
+
 returns-3 : tie.Need-returns-3
 returns-3 c =
-    let a = c .before .before .before .before .before in
-    settled-fresh (a .args .s) (a .pre .sound) (sym (c .before .before .before .act .ensures) ∙ c .before .before .if1 .left) (λ l. sym (c .before .closes .ensures l) ∙ not-false _ (c .if2 .left))
+    rw (c .fresh .ensures)
+    (settled-fresh (c .before .before .before .before .before .before .args .s) (c .before .before .before .before .before .before .pre .sound) (sym (c .before .before .before .before .act .ensures) ∙ c .before .before .before .if1 .left) (λ l. sym (c .before .before .closes .ensures l) ∙ not-false _ (c .before .if2 .left)))
 
 pub settled-spec : {M : Type 1} → statement M
-settled-spec = tie.close (tie.spec act-requires returns closes-requires returns-2 returns-3)
+settled-spec = tie.close (tie.spec act-requires returns closes-requires returns-2 fresh-requires returns-3)

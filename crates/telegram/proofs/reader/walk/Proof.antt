@@ -8,7 +8,7 @@ use borrow.Author.Needs.{needs}
 use Rattle.states.specs.Reader.{answerOf}
 use Rattle.states.proofs.Drifting.{further}
 use Rattle.states.proofs.Heading.{head-id, head-dir, scans-headed, less-headed}
-use Rattle.states.proofs.Scanning.{Scans, scans-here, scans-drifted, scans-slight, less-slight, scans-on, fits, less, ends-short, ends-broken, ends-well, ends-trailing}
+use Rattle.states.proofs.Scanning.{Scans, scans-here, scans-drifted, scans-slight, scans-closed, less-slight, scans-on, fits, less, ends-short, ends-broken, ends-well, ends-trailing}
 use Rattle.telegram.proofs.reader.walk.Statement.{statement}
 use Rattle.telegram.proofs.reader.walk.Tie as tie
 
@@ -113,7 +113,7 @@ loop-less-2 : tie.Need-loop-less-2 Inv-loop μ-loop
 loop-less-2 c =
     let i = scans-drifted (c .before .before .before .before .before .before .before .before .before .before .before .before .before .before .before .loop .inv) (c .before .before .before .before .before .before .before .before .before .before .before .before .before .before .drift .ensures) in
     let q = rw (c .before .u .given .1) at (c .before .before .before .ease .ensures) in
-    let l = less-slight i (c .before .before .before .before .before .before .before .before .width .ensures) (c .before .before .before .before .before .before .before .take .ensures) (c .before .before .before .before .before .v .given .1) (q .0) (q .1) (q .2) in
+    let l = less-slight i (c .before .before .before .before .before .before .before .before .width .ensures) (c .before .before .before .before .before .before .before .take .ensures) (c .before .before .before .before .before .v .given .1) (q .0) (q .1) in
     omega (arith, further (c .before .before .before .before .before .before .before .before .before .before .before .before .before .before .drift .ensures))
 
 loop-again-2 : tie.Need-loop-again-2 Inv-loop μ-loop
@@ -122,6 +122,36 @@ loop-again-2 c =
     let q = rw (c .before .u .given .1) at (c .before .before .before .ease .ensures) in
     scans-here (scans-slight i (c .before .before .before .before .before .before .before .before .width .ensures) (c .before .before .before .before .before .before .before .take .ensures) (c .before .before .before .before .before .v .given .1) (q .0) (q .1) (q .2))
 
+-- at a packet's end
+
+enum-known-u-2 : tie.Need-enum-known-u-2 Inv-loop μ-loop
+enum-known-u-2 c = search needs
+
+closes-requires : tie.Need-closes-requires Inv-loop μ-loop
+closes-requires c κs = search needs
+
+fresh-requires : tie.Need-fresh-requires Inv-loop μ-loop
+fresh-requires c κs = search needs
+
+add-count-4 : tie.Need-add-count-4 Inv-loop μ-loop
+add-count-4 c =
+    let i = scans-drifted (c .before .before .before .before .before .before .before .before .before .before .before .before .before .before .before .before .before .before .loop .inv) (c .before .before .before .before .before .before .before .before .before .before .before .before .before .before .before .before .before .drift .ensures) in
+    omega (arith, i .few, i .within, i .low)
+
+loop-less-3 : tie.Need-loop-less-3 Inv-loop μ-loop
+loop-less-3 c =
+    let i = scans-drifted (c .before .before .before .before .before .before .before .before .before .before .before .before .before .before .before .before .before .before .loop .inv) (c .before .before .before .before .before .before .before .before .before .before .before .before .before .before .before .before .before .drift .ensures) in
+    let q = rw (c .before .before .before .before .u2 .given .1) at (c .before .before .before .before .before .before .ease .ensures) in
+    let l = less-slight i (c .before .before .before .before .before .before .before .before .before .before .before .width .ensures) (c .before .before .before .before .before .before .before .before .before .before .take .ensures) (c .before .before .before .before .before .before .before .before .v .given .1) (q .0) (q .1) in
+    rw (c .fresh .ensures) (omega (arith, further (c .before .before .before .before .before .before .before .before .before .before .before .before .before .before .before .before .before .drift .ensures)))
+
+loop-again-3 : tie.Need-loop-again-3 Inv-loop μ-loop
+loop-again-3 c =
+    let i = scans-drifted (c .before .before .before .before .before .before .before .before .before .before .before .before .before .before .before .before .before .before .loop .inv) (c .before .before .before .before .before .before .before .before .before .before .before .before .before .before .before .before .before .drift .ensures) in
+    let q = rw (c .before .before .before .before .u2 .given .1) at (c .before .before .before .before .before .before .ease .ensures) in
+    rw (c .fresh .ensures)
+    (scans-here (scans-closed i (c .before .before .before .before .before .before .before .before .before .before .before .width .ensures) (c .before .before .before .before .before .before .before .before .before .before .take .ensures) (c .before .before .before .before .before .before .before .before .v .given .1) (q .0) (q .1) (q .2) (λ l. sym (c .before .before .closes .ensures l) ∙ c .before .if2 .taken)))
+
 enum-told-3 : tie.Need-enum-told-3 Inv-loop μ-loop
 enum-told-3 c = search needs
 
@@ -129,9 +159,9 @@ enum-told-3 c = search needs
 
 turn-requires : tie.Need-turn-requires Inv-loop μ-loop
 turn-requires c κs =
-    let i = scans-drifted (c .before .before .before .before .before .before .before .before .before .before .before .before .before .before .before .before .loop .inv) (c .before .before .before .before .before .before .before .before .before .before .before .before .before .before .before .drift .ensures) in
+    let i = scans-drifted (c .before .before .before .before .before .before .before .before .before .before .before .before .before .before .before .loop .inv) (c .before .before .before .before .before .before .before .before .before .before .before .before .before .before .drift .ensures) in
     record {
-      stepping = record { table = i .drives .table; sound = i .drives .sound; low = omega (arith, i .within, i .low); fits = fits i (c .before .before .before .before .before .before .before .before .before .width .ensures) (c .before .before .before .before .before .before .before .before .take .ensures) (c .before .before .before .before .before .before .v .given .1) };
+      stepping = record { table = i .drives .table; sound = i .drives .sound; low = omega (arith, i .within, i .low); fits = fits i (c .before .before .before .before .before .before .before .before .width .ensures) (c .before .before .before .before .before .before .before .take .ensures) (c .before .before .before .before .before .v .given .1) };
       inside = omega (arith, i .drives .noted, i .within, i .low, i .drives .long);
     }
 
@@ -143,57 +173,57 @@ refused-requires-2 c κs = search needs
 
 returns-2 : tie.Need-returns-2 Inv-loop μ-loop
 returns-2 c =
-    let i = scans-drifted (c .before .before .before .before .before .before .before .before .before .before .before .before .before .before .before .before .before .before .before .before .before .loop .inv) (c .before .before .before .before .before .before .before .before .before .before .before .before .before .before .before .before .before .before .before .before .drift .ensures) in
-    c .refused2 .ensures [] ∙ sym (ap answerOf (ends-broken i (c .before .before .before .before .before .before .before .before .before .before .before .before .before .before .width .ensures) (c .before .before .before .before .before .before .before .before .before .before .before .before .before .take .ensures) (c .before .before .before .before .before .before .before .before .before .before .before .v .given .1) (c .before .before .before .before .turn .ensures) (c .before .before .kind .given .1)))
+    let i = scans-drifted (c .before .before .before .before .before .before .before .before .before .before .before .before .before .before .before .before .before .before .before .before .loop .inv) (c .before .before .before .before .before .before .before .before .before .before .before .before .before .before .before .before .before .before .before .drift .ensures) in
+    c .refused2 .ensures [] ∙ sym (ap answerOf (ends-broken i (c .before .before .before .before .before .before .before .before .before .before .before .before .before .width .ensures) (c .before .before .before .before .before .before .before .before .before .before .before .before .take .ensures) (c .before .before .before .before .before .before .before .before .before .before .v .given .1) (c .before .before .before .before .turn .ensures) (c .before .before .kind .given .1)))
 
 enum-told-4 : tie.Need-enum-told-4 Inv-loop μ-loop
 enum-told-4 c = search needs
 
-add-t34 : tie.Need-add-t34 Inv-loop μ-loop
-add-t34 c =
-    let i = scans-drifted (c .before .before .before .before .before .before .before .before .before .before .before .before .before .before .before .before .before .before .before .before .before .loop .inv) (c .before .before .before .before .before .before .before .before .before .before .before .before .before .before .before .before .before .before .before .before .drift .ensures) in
+add-t37 : tie.Need-add-t37 Inv-loop μ-loop
+add-t37 c =
+    let i = scans-drifted (c .before .before .before .before .before .before .before .before .before .before .before .before .before .before .before .before .before .before .before .before .loop .inv) (c .before .before .before .before .before .before .before .before .before .before .before .before .before .before .before .before .before .before .before .drift .ensures) in
     omega (arith, i .few, i .within, i .low)
 
 returns-3 : tie.Need-returns-3 Inv-loop μ-loop
 returns-3 c =
-    let i = scans-drifted (c .before .before .before .before .before .before .before .before .before .before .before .before .before .before .before .before .before .before .before .before .before .loop .inv) (c .before .before .before .before .before .before .before .before .before .before .before .before .before .before .before .before .before .before .before .before .drift .ensures) in
-    ends-well i (c .before .before .before .before .before .before .before .before .before .before .before .before .before .before .width .ensures) (c .before .before .before .before .before .before .before .before .before .before .before .before .before .take .ensures) (c .before .before .before .before .before .before .before .before .before .before .before .v .given .1) (c .before .before .before .before .turn .ensures) (c .before .before .enum-told4 .given .1) (c .if2 .taken)
+    let i = scans-drifted (c .before .before .before .before .before .before .before .before .before .before .before .before .before .before .before .before .before .before .before .before .loop .inv) (c .before .before .before .before .before .before .before .before .before .before .before .before .before .before .before .before .before .before .before .drift .ensures) in
+    ends-well i (c .before .before .before .before .before .before .before .before .before .before .before .before .before .width .ensures) (c .before .before .before .before .before .before .before .before .before .before .before .before .take .ensures) (c .before .before .before .before .before .before .before .before .before .before .v .given .1) (c .before .before .before .before .turn .ensures) (c .before .before .enum-told4 .given .1) (c .if3 .taken)
 
 refused-requires-3 : tie.Need-refused-requires-3 Inv-loop μ-loop
 refused-requires-3 c κs = search needs
 
 returns-4 : tie.Need-returns-4 Inv-loop μ-loop
 returns-4 c =
-    let i = scans-drifted (c .before .before .before .before .before .before .before .before .before .before .before .before .before .before .before .before .before .before .before .before .before .before .loop .inv) (c .before .before .before .before .before .before .before .before .before .before .before .before .before .before .before .before .before .before .before .before .before .drift .ensures) in
+    let i = scans-drifted (c .before .before .before .before .before .before .before .before .before .before .before .before .before .before .before .before .before .before .before .before .before .loop .inv) (c .before .before .before .before .before .before .before .before .before .before .before .before .before .before .before .before .before .before .before .before .drift .ensures) in
     c .refused3 .ensures []
-    ∙ sym (ap answerOf (ends-trailing i (c .before .before .before .before .before .before .before .before .before .before .before .before .before .before .before .width .ensures) (c .before .before .before .before .before .before .before .before .before .before .before .before .before .before .take .ensures) (c .before .before .before .before .before .before .before .before .before .before .before .before .v .given .1) (c .before .before .before .before .before .turn .ensures) (c .before .before .before .enum-told4 .given .1) (c .before .if2 .left)))
+    ∙ sym (ap answerOf (ends-trailing i (c .before .before .before .before .before .before .before .before .before .before .before .before .before .before .width .ensures) (c .before .before .before .before .before .before .before .before .before .before .before .before .before .take .ensures) (c .before .before .before .before .before .before .before .before .before .before .before .v .given .1) (c .before .before .before .before .before .turn .ensures) (c .before .before .before .enum-told4 .given .1) (c .before .if3 .left)))
 
 enum-known-after-2 : tie.Need-enum-known-after-2 Inv-loop μ-loop
 enum-known-after-2 c = search needs
 
 keep-requires : tie.Need-keep-requires Inv-loop μ-loop
 keep-requires c κs =
-    let i = scans-drifted (c .before .before .before .before .before .before .before .before .before .before .before .before .before .before .before .before .before .before .before .before .before .loop .inv) (c .before .before .before .before .before .before .before .before .before .before .before .before .before .before .before .before .before .before .before .before .drift .ensures) in
+    let i = scans-drifted (c .before .before .before .before .before .before .before .before .before .before .before .before .before .before .before .before .before .before .before .before .loop .inv) (c .before .before .before .before .before .before .before .before .before .before .before .before .before .before .before .before .before .before .before .drift .ensures) in
     record {
-      stepping = record { table = i .drives .table; sound = i .drives .sound; low = omega (arith, i .within, i .low); fits = fits i (c .before .before .before .before .before .before .before .before .before .before .before .before .before .before .width .ensures) (c .before .before .before .before .before .before .before .before .before .before .before .before .before .take .ensures) (c .before .before .before .before .before .before .before .before .before .before .before .v .given .1) };
+      stepping = record { table = i .drives .table; sound = i .drives .sound; low = omega (arith, i .within, i .low); fits = fits i (c .before .before .before .before .before .before .before .before .before .before .before .before .before .width .ensures) (c .before .before .before .before .before .before .before .before .before .before .before .before .take .ensures) (c .before .before .before .before .before .before .before .before .before .before .v .given .1) };
       inside = omega (arith, i .drives .noted, i .within, i .low, i .drives .long);
     }
 
-add-count-4 : tie.Need-add-count-4 Inv-loop μ-loop
-add-count-4 c =
-    let i = scans-drifted (c .before .before .before .before .before .before .before .before .before .before .before .before .before .before .before .before .before .before .before .before .before .before .loop .inv) (c .before .before .before .before .before .before .before .before .before .before .before .before .before .before .before .before .before .before .before .before .before .drift .ensures) in
+add-count-5 : tie.Need-add-count-5 Inv-loop μ-loop
+add-count-5 c =
+    let i = scans-drifted (c .before .before .before .before .before .before .before .before .before .before .before .before .before .before .before .before .before .before .before .before .before .loop .inv) (c .before .before .before .before .before .before .before .before .before .before .before .before .before .before .before .before .before .before .before .before .drift .ensures) in
     omega (arith, i .few, i .within, i .low)
 
-loop-less-3 : tie.Need-loop-less-3 Inv-loop μ-loop
-loop-less-3 c =
-    let i = scans-drifted (c .before .before .before .before .before .before .before .before .before .before .before .before .before .before .before .before .before .before .before .before .before .before .loop .inv) (c .before .before .before .before .before .before .before .before .before .before .before .before .before .before .before .before .before .before .before .before .before .drift .ensures) in
-    let l = less i (c .before .before .before .before .before .before .before .before .before .before .before .before .before .before .before .width .ensures) (c .before .before .before .before .before .before .before .before .before .before .before .before .before .before .take .ensures) (c .before .before .before .before .before .before .before .before .before .before .before .before .v .given .1) (c .before .before .before .before .before .turn .ensures) (c .before .before .before .after2 .given .1) in
-    omega (arith, further (c .before .before .before .before .before .before .before .before .before .before .before .before .before .before .before .before .before .before .before .before .before .drift .ensures))
+loop-less-4 : tie.Need-loop-less-4 Inv-loop μ-loop
+loop-less-4 c =
+    let i = scans-drifted (c .before .before .before .before .before .before .before .before .before .before .before .before .before .before .before .before .before .before .before .before .before .loop .inv) (c .before .before .before .before .before .before .before .before .before .before .before .before .before .before .before .before .before .before .before .before .drift .ensures) in
+    let l = less i (c .before .before .before .before .before .before .before .before .before .before .before .before .before .before .width .ensures) (c .before .before .before .before .before .before .before .before .before .before .before .before .before .take .ensures) (c .before .before .before .before .before .before .before .before .before .before .before .v .given .1) (c .before .before .before .before .before .turn .ensures) (c .before .before .before .after2 .given .1) in
+    omega (arith, further (c .before .before .before .before .before .before .before .before .before .before .before .before .before .before .before .before .before .before .before .before .drift .ensures))
 
-loop-again-3 : tie.Need-loop-again-3 Inv-loop μ-loop
-loop-again-3 c =
-    let i = scans-drifted (c .before .before .before .before .before .before .before .before .before .before .before .before .before .before .before .before .before .before .before .before .before .before .loop .inv) (c .before .before .before .before .before .before .before .before .before .before .before .before .before .before .before .before .before .before .before .before .before .drift .ensures) in
-    scans-here (scans-on i (c .before .before .before .before .before .before .before .before .before .before .before .before .before .before .before .width .ensures) (c .before .before .before .before .before .before .before .before .before .before .before .before .before .before .take .ensures) (c .before .before .before .before .before .before .before .before .before .before .before .before .v .given .1) (c .before .before .before .before .before .turn .ensures) (c .before .before .before .after2 .given .1) (c .keep .ensures))
+loop-again-4 : tie.Need-loop-again-4 Inv-loop μ-loop
+loop-again-4 c =
+    let i = scans-drifted (c .before .before .before .before .before .before .before .before .before .before .before .before .before .before .before .before .before .before .before .before .before .loop .inv) (c .before .before .before .before .before .before .before .before .before .before .before .before .before .before .before .before .before .before .before .before .drift .ensures) in
+    scans-here (scans-on i (c .before .before .before .before .before .before .before .before .before .before .before .before .before .before .width .ensures) (c .before .before .before .before .before .before .before .before .before .before .before .before .before .take .ensures) (c .before .before .before .before .before .before .before .before .before .before .before .v .given .1) (c .before .before .before .before .before .turn .ensures) (c .before .before .before .after2 .given .1) (c .keep .ensures))
 
 pub walk-spec : {M : Type 1} → statement M
 walk-spec =
@@ -222,18 +252,24 @@ walk-spec =
     add-count-3
     loop-less-2
     loop-again-2
+    enum-known-u-2
+    closes-requires
+    fresh-requires
+    add-count-4
+    loop-less-3
+    loop-again-3
     enum-told-3
     turn-requires
     enum-known-kind
     refused-requires-2
     returns-2
     enum-told-4
-    add-t34
+    add-t37
     returns-3
     refused-requires-3
     returns-4
     enum-known-after-2
     keep-requires
-    add-count-4
-    loop-less-3
-    loop-again-3)
+    add-count-5
+    loop-less-4
+    loop-again-4)
