@@ -20,6 +20,7 @@ use Rattle.states.specs.declared.State.{State}
 use Rattle.states.specs.declared.Ahead.the-variants.{On}
 use Rattle.states.specs.declared.Verdict.the-variants.{Fine}
 use Rattle.states.proofs.Advancing.{advances-next, advances-end}
+use Rattle.states.proofs.Directions.{directs-not}
 use Rattle.states.proofs.Idling.{slight-free}
 use Rattle.states.proofs.Moves.{start-todo}
 use Rattle.states.proofs.Noting.{withPig, pig-any, nothing, closes-header}
@@ -105,7 +106,7 @@ module _ (s : List ℕ) (n : ℕ) (rows seen : List ℕ) (low : n ≤ 830) (wide
 
   after-pig : At (inHeader 12 5 (pigIn a)) 4
   unfolding rowAt
-  after-pig = scans-fine after-media refl refl takes-pig judged-pig (λ e. omega arith) enters-pig
+  after-pig = scans-fine after-media refl refl takes-pig judged-pig (directs-not _ (λ e. omega arith)) enters-pig
 
   -- N_TOTAL, at least N_PIG
 
@@ -129,7 +130,7 @@ module _ (s : List ℕ) (n : ℕ) (rows seen : List ℕ) (low : n ≤ 830) (wide
 
   after-total : At (inHeader 15 6 (pigIn a)) 5
   unfolding rowAt
-  after-total = scans-fine after-pig refl refl takes-total judged-total (λ e. omega arith) enters-total
+  after-total = scans-fine after-pig refl refl takes-total judged-total (directs-not _ (λ e. omega arith)) enters-total
 
   -- M_DUP, M_MCOUNT, NID_C, NID_BG
 
@@ -184,7 +185,7 @@ module _ (s : List ℕ) (n : ℕ) (rows seen : List ℕ) (low : n ≤ 830) (wide
 
   after-link : At (behind a) 10
   unfolding rowAt
-  after-link = scans-fine after-group refl refl takes-link judged-link (λ e. omega arith) enters-link
+  after-link = scans-fine after-group refl refl takes-link judged-link (directs-not _ (λ e. omega arith)) enters-link
 
   -- the whole header
   pub scans-fronted : Scans s n rows seen 0 r (record { at = r .at }) 10

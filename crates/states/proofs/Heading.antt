@@ -1,5 +1,5 @@
--- A packet's head, taken at once: the definition takes NID_PACKET, Q_DIR and L_PACKET one after the other, and comes to the same state. Assumes
--- nothing.
+-- A packet's head, taken at once, and that of the CTCS packet inside one: the definition takes NID_PACKET or NID_XUSER, Q_DIR and L_PACKET one
+-- after the other, and comes to the same state. Assumes nothing.
 use mathlib.Core.Bool.{true, false}
 use mathlib.Core.List.{List}
 use mathlib.Core.Path.{_≡_, refl, sym, ap, _∙_, subst}
@@ -11,24 +11,27 @@ use Rattle.bits.specs.Take.{takeAt}
 use Rattle.bits.specs.declared.Cursor.{Cursor}
 use Rattle.bits.specs.declared.Taken.the-variants.{Field}
 use Rattle.bits.proofs.Fields.{IsField, taken, take-part}
-use Rattle.format.specs.Table.{act, fieldAt, codeOf, etcsRow}
-use Rattle.format.specs.Kinds.{etcsStart}
+use Rattle.format.specs.Fields.{NID-XUSER}
+use Rattle.format.specs.Table.{act, fieldAt, codeOf, etcsRow, ctcsRow}
+use Rattle.format.specs.Kinds.{etcsStart, ctcsStart}
 use Rattle.format.proofs.Heads.{HeadRows, head-rows, between}
-use Rattle.format.proofs.Rows.{next-in, etcs-in, none-act, packet-width, direction-width, size-width}
-use Rattle.states.specs.Heads.{idIn, dirIn, longIn, opened, Opened}
-use Rattle.states.specs.Machine.{contextOf, Advanced, Noted, Sound, Judged, Entered, Directing}
+use Rattle.format.proofs.Rows.{next-in, etcs-in, ctcs-in, none-act, nest-field, packet-width, direction-width, size-width}
+use Rattle.states.specs.Heads.{idIn, dirIn, longIn, opened, Opened, nested, Nested}
+use Rattle.states.specs.Machine.{reached, contextOf, Advanced, Noted, Sound, Judged, Entered, Directing}
 use Rattle.states.specs.Seen.{Held, Passed}
 use Rattle.states.specs.declared.Outcome.the-variants.{Go}
-use Rattle.states.specs.declared.Level.the-variants.{Packet}
+use Rattle.states.specs.declared.Level.the-variants.{Packet, User}
 use Rattle.states.specs.declared.State.{State}
+use Rattle.states.specs.declared.Todo.{Todo}
 use Rattle.states.specs.declared.Ahead.the-variants.{On}
 use Rattle.states.specs.declared.Verdict.the-variants.{Fine}
-use Rattle.states.proofs.Advancing.{advances-to, advances-next}
-use Rattle.states.proofs.Directions.{directs-here, collides-as-kept, passes, notices}
-use Rattle.states.proofs.Noting.{inPacket, withDir, withLong, packet-opens, dir-packet, long-packet}
+use Rattle.states.proofs.Advancing.{advances-to, advances-inside, advances-next}
+use Rattle.states.proofs.Directions.{directs-here, directs-not, directs-elsewhere, not-user, collides-as-kept, passes, notices}
+use Rattle.states.proofs.Noting.{inPacket, inUser, withDir, packet-opens, user-opens, dir-packet, dir-user, long-packet, long-user}
 use Rattle.states.proofs.Scanning.{Scans, scans-on, scans-fine, fits}
-use Rattle.states.proofs.Senses.{rule-direction, judge-free, judge-packet, judge-direction, packet-some, direction-once}
+use Rattle.states.proofs.Senses.{rule-direction, judge-free, judge-packet, judge-user, judge-direction, packet-some, user-some, direction-once, direction-same}
 use Rattle.states.proofs.Stepping.{settled-goes, entered-on, stepped-goes}
+use Rattle.format.specs.Fields as fields
 
 -- the rows of a head and the one behind them are in the table
 pub head-inside : (k : ℕ) → k < 213 → codeOf (fieldAt k .sense) ≡ 9 → k + 2 < 213
@@ -37,6 +40,45 @@ head-inside k l e =
     let one = next-in k l (omega (arith, h .direction)) in
     let two = next-in (k + 1) (omega arith) (omega (arith, h .next)) in
     omega arith
+
+-- past the L_PACKET of a head, of which n is noted
+module _ {s : List ℕ} {n : ℕ} {rows seen : List ℕ} {met : ℕ} {st : State} {c : Cursor} {count : ℕ} (i : Scans s n rows seen met st c count)
+    (plain : act (st .todo .node) ≡ 2) (size : codeOf (fieldAt (st .todo .node) .sense) ≡ 3) (more : act (st .todo .node + 1) ≡ 0 → ⊥)
+    {v : ℕ} {next : Cursor} (h : takeAt s n 13 (c .at) ≡ Field v next) {m : State} (notes : Noted st 3 v m) where
+  abbrev ahead : Todo
+  ahead = record { node = st .todo .node + 1; left = st .todo .left; outer = st .todo .outer }
+
+  abbrev after : State
+  after = reached m (next .at) ahead
+
+  thirteen : 13 ≡ fieldAt (st .todo .node) .width
+  thirteen = sym (size-width (st .todo .node) (i .drives .sound .tidy .inside) size)
+
+  past-size : IsField s n 13 (c .at) v (next .at)
+  past-size = taken s n 13 (c .at) v next h
+
+  to-more : Advanced (st .todo) v (On ahead)
+  to-more = advances-next (st .todo) v (i .drives .sound .tidy) plain more
+
+  sound-after : Sound after
+  sound-after =
+      let d = i .drives .sound in
+      record {
+        tidy = to-more .tidy;
+        first = omega (arith, d .first, notes .first, past-size .past, i .here);
+        second = omega (arith, notes .second (d .second), past-size .past, i .here);
+        small = notes .small (d .small) (λ e. absurd (omega arith));
+      }
+
+  enters : Entered st v (Go after)
+  enters =
+      entered-on st v ahead m (next .at) (Go after) to-more (subst (λ (x : ℕ). Noted st x v m) (sym size) notes)
+      (rw (← thirteen) (omega (arith, past-size .past, i .here))) (settled-goes after sound-after more)
+
+  pub scans-size : Scans s n rows seen met after next (count + 1)
+  scans-size =
+      scans-fine i thirteen refl h (λ p l e. judge-free p (contextOf l st) (fieldAt (st .todo .node)) v (omega arith))
+      (directs-not st (λ e. omega arith)) enters
 
 module _ {s : List ℕ} {n : ℕ} {rows seen : List ℕ} {met : ℕ} {st : State} {c : Cursor} {count : ℕ} (i : Scans s n rows seen met st c count)
     (z : st .todo .node ≡ 0) {r : State} (o : Opened s n seen met st r) where
@@ -54,9 +96,6 @@ module _ {s : List ℕ} {n : ℕ} {rows seen : List ℕ} {met : ℕ} {st : State
 
   rows-there : HeadRows k
   rows-there = head-rows k inside (o .known)
-
-  second-inside : k + 1 < 213
-  second-inside = let h = head-inside k inside (o .known) in omega arith
 
   -- NID_PACKET
 
@@ -102,7 +141,7 @@ module _ {s : List ℕ} {n : ℕ} {rows seen : List ℕ} {met : ℕ} {st : State
   few = omega (arith, i .drives .noted, i .drives .long, i .within, i .low)
 
   scans1 : Scans s n rows seen met s1 (record { at = st .at + 8 }) (count + 1)
-  scans1 = scans-fine i eight refl takes-id judged1 not-nine1 enters1
+  scans1 = scans-fine i eight refl takes-id judged1 (directs-not st not-nine1) enters1
 
   -- Q_DIR
 
@@ -154,35 +193,14 @@ module _ {s : List ℕ} {n : ℕ} {rows seen : List ℕ} {met : ℕ} {st : State
 
     -- L_PACKET
 
-    thirteen : 13 ≡ fieldAt (k + 1) .width
-    thirteen = sym (size-width (k + 1) second-inside (rows-there .size))
-
     takes-long : takeAt s n 13 (st .at + 10) ≡ Field (longIn a) (record { at = st .at + 23 })
     takes-long = let e : st .at + 10 + 13 ≡ st .at + 23 = omega arith in rw (← e) (take-part s n 10 13 0 (st .at) a (longIn a) _ whole (omega arith) (omega arith))
 
     last-row : k + 1 + 1 ≡ k + 2
     last-row = omega arith
 
-    to-rest : Advanced (s2 .todo) (longIn a) (On (opened st a .todo))
-    to-rest = rw last-row at (advances-next (s2 .todo) (longIn a) (sound2 .tidy) (rows-there .next) (rw last-row (o .more)))
-
-    sound3 : Sound (opened st a)
-    sound3 = record { tidy = to-rest .tidy; first = omega (arith, i .drives .sound .first); second = omega arith; small = id-small }
-
-    judged3 : Judged s2 (longIn a) false Fine
-    judged3 p l h = judge-free p (contextOf l s2) (fieldAt (k + 1)) (longIn a) (omega (arith, rows-there .size))
-
-    not-nine3 : codeOf (fieldAt (k + 1) .sense) ≡ 9 → ⊥
-    not-nine3 e = omega (arith, rows-there .size)
-
-    enters3 : Entered s2 (longIn a) (Go (opened st a))
-    enters3 =
-        entered-on s2 (longIn a) (opened st a .todo) (withLong s2 (longIn a)) (st .at + 23) (Go (opened st a)) to-rest
-        (subst (λ (x : ℕ). Noted s2 x (longIn a) (withLong s2 (longIn a))) (sym (rows-there .size)) (long-packet s2 (longIn a) refl)) (rw (← thirteen) (omega arith))
-        (settled-goes (opened st a) sound3 (o .more))
-
     scans3 : Scans s n rows seen2 met2 (opened st a) (record { at = st .at + 23 }) (count + 1 + 1 + 1)
-    scans3 = scans-fine scans2 thirteen refl takes-long judged3 not-nine3 enters3
+    scans3 = rw last-row at (scans-size scans2 (rows-there .next) (rows-there .size) (rw last-row (o .more)) takes-long (long-packet s2 (longIn a) refl))
 
     -- the whole head
 
@@ -198,3 +216,109 @@ module _ {s : List ℕ} {n : ℕ} {rows seen : List ℕ} {met : ℕ} {st : State
 
   pub head-dir : r .dir < 4
   head-dir = rw (o .state) (omega arith)
+
+-- ---- the head of a CTCS packet
+
+module _ {s : List ℕ} {n : ℕ} {rows seen : List ℕ} {met : ℕ} {st : State} {c : Cursor} {count : ℕ} (i : Scans s n rows seen met st c count)
+    (z : act (st .todo .node) ≡ 1) {r : State} (o : Nested s n st r) where
+  abbrev b : ℕ
+  b = o .bits
+
+  abbrev j : ℕ
+  j = ctcsRow (idIn b)
+
+  all : IsField s n 24 (st .at) b (st .at + 24)
+  all = taken s n 24 (st .at) b (record { at = st .at + 24 }) (o .field)
+
+  in-table : j < 213
+  in-table = ctcs-in (idIn b)
+
+  rows-here : HeadRows j
+  rows-here = head-rows j in-table (o .known)
+
+  -- NID_XUSER
+
+  due-user : fieldAt (st .todo .node) ≡ NID-XUSER
+  due-user = nest-field (st .todo .node) z
+
+  nine : 9 ≡ fieldAt (st .todo .node) .width
+  nine = sym (ap (λ (f : fields.Field). f .width) due-user)
+
+  is-user : codeOf (fieldAt (st .todo .node) .sense) ≡ 8
+  is-user = ap (λ (f : fields.Field). codeOf (f .sense)) due-user
+
+  takes-user : takeAt s n 9 (c .at) ≡ Field (idIn b) (record { at = st .at + 9 })
+  takes-user =
+      rw (i .here) (rw add-zero at (take-part s n 0 9 15 (st .at) b (idIn b) _ all (omega arith) (omega (arith, all .small))))
+
+  user-there : j ≡ 0 → ⊥
+  user-there e = let h : codeOf (fieldAt 0 .sense) ≡ 9 = rw (← e) (o .known) in omega (arith, between)
+
+  abbrev t1 : State
+  t1 = record { at = st .at + 9; todo = record { node = j; left = 0; outer = 0 }; level = User; start = st .start; id = st .id; dir = st .dir; long = st .long; userstart = st .at; userlong = 0; pig = st .pig }
+
+  to-user : Advanced (st .todo) (idIn b) (On (t1 .todo))
+  unfolding ctcsStart
+  to-user = advances-inside (st .todo) (idIn b) (i .drives .sound .tidy) (ctcsStart (idIn b)) refl z
+
+  firm1 : Sound t1
+  firm1 = let d = i .drives .sound in record { tidy = to-user .tidy; first = omega (arith, d .first); second = omega arith; small = d .small }
+
+  comes1 : Entered st (idIn b) (Go t1)
+  comes1 =
+      entered-on st (idIn b) (t1 .todo) (inUser st) (st .at + 9) (Go t1) to-user
+      (subst (λ (x : ℕ). Noted st x (idIn b) (inUser st)) (sym is-user) (user-opens st (idIn b))) (rw (← nine))
+      (settled-goes t1 firm1 (λ e. omega (arith, rows-here .direction)))
+
+  goes1 : Scans s n rows seen met t1 (record { at = st .at + 9 }) (count + 1)
+  goes1 =
+      scans-fine i nine refl takes-user (λ p l h. user-some (idIn b) user-there ∙ judge-user p (contextOf l st) (fieldAt (st .todo .node)) (idIn b) is-user)
+      (directs-not st (λ e. omega (arith, is-user))) comes1
+
+  -- Q_DIR
+
+  both : 2 ≡ fieldAt j .width
+  both = sym (direction-width j in-table (o .known))
+
+  takes-way : takeAt s n 2 (st .at + 9) ≡ Field (dirIn b) (record { at = st .at + 11 })
+  takes-way = let e : st .at + 9 + 2 ≡ st .at + 11 = omega arith in rw (← e) (take-part s n 9 2 13 (st .at) b (dirIn b) _ all (omega arith) (omega arith))
+
+  abbrev t2 : State
+  t2 = record { at = st .at + 11; todo = record { node = j + 1; left = 0; outer = 0 }; level = User; start = st .start; id = st .id; dir = st .dir; long = st .long; userstart = st .at; userlong = 0; pig = st .pig }
+
+  to-length : Advanced (t1 .todo) (dirIn b) (On (t2 .todo))
+  to-length = advances-next (t1 .todo) (dirIn b) (firm1 .tidy) (rows-here .direction) (λ e. omega (arith, rows-here .next))
+
+  firm2 : Sound t2
+  firm2 = let d = i .drives .sound in record { tidy = to-length .tidy; first = omega (arith, d .first); second = omega arith; small = d .small }
+
+  comes2 : Entered t1 (dirIn b) (Go t2)
+  comes2 =
+      entered-on t1 (dirIn b) (t2 .todo) t1 (st .at + 11) (Go t2) to-length
+      (subst (λ (x : ℕ). Noted t1 x (dirIn b) t1) (sym (o .known)) (dir-user t1 (dirIn b) refl)) (rw (← both) (omega arith))
+      (settled-goes t2 firm2 (λ e. omega (arith, rows-here .next)))
+
+  goes2 : Scans s n rows seen met t2 (record { at = st .at + 11 }) (count + 1 + 1)
+  goes2 =
+      scans-fine goes1 both refl takes-way
+      (λ p l h. direction-same p (contextOf l t1) (dirIn b) (o .allowed) refl (o .alike) ∙ judge-direction p (contextOf l t1) (fieldAt j) (dirIn b) (o .known))
+      (directs-elsewhere t1 (not-user User refl)) comes2
+
+  -- L_PACKET
+
+  takes-length : takeAt s n 13 (st .at + 11) ≡ Field (longIn b) (record { at = st .at + 24 })
+  takes-length = let e : st .at + 11 + 13 ≡ st .at + 24 = omega arith in rw (← e) (take-part s n 11 13 0 (st .at) b (longIn b) _ all (omega arith) (omega arith))
+
+  behind-row : j + 1 + 1 ≡ j + 2
+  behind-row = omega arith
+
+  goes3 : Scans s n rows seen met (nested st b) (record { at = st .at + 24 }) (count + 1 + 1 + 1)
+  goes3 = rw behind-row at (scans-size goes2 (rows-here .next) (rows-here .size) (rw behind-row (o .more)) takes-length (long-user t2 (longIn b) refl))
+
+  -- the whole head
+
+  pub scans-nested : Scans s n rows seen met r (record { at = r .at }) (count + 3)
+  scans-nested = let e : count + 3 ≡ count + 1 + 1 + 1 = omega arith in rw (o .state, e) goes3
+
+  pub less-nested : n - r .at < n - st .at
+  less-nested = rw (o .state) (omega (arith, all .within))

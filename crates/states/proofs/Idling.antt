@@ -14,7 +14,7 @@ use lib.ListN.{length}
 use Rattle.format.specs.Rules.{broken, unless, forbidden}
 use Rattle.format.specs.Table.{act, jump, fieldAt, codeOf, lowOf, highOf}
 use Rattle.laws.proofs.Told.{and-two}
-use Rattle.states.specs.Machine.{contextOf, levelOf, ruleAt, Tidy, Idle, later, Slight, slight, reached, Advanced, Noted, Sound, Judged, Settled, Entered}
+use Rattle.states.specs.Machine.{contextOf, levelOf, ruleAt, Tidy, Idle, later, Slight, slight, reached, Advanced, Noted, Sound, Judged, Settled, Entered, Directing}
 use Rattle.states.specs.Seen.{Passed, Noticed}
 use Rattle.states.specs.declared.State.{State}
 use Rattle.states.specs.declared.Outcome.{Outcome}
@@ -48,13 +48,12 @@ module _ (t : Todo) (d : Tidy t) (i : Idle t) (v : ℕ) where
   idle-ahead = by-test (eqb (act k) 0) refl
 
 -- a value that keeps its rule, where no packet's Q_DIR is due: what is noted of it, and where it leads
-module _ (s : State) (d : Sound s) (v : ℕ) (j : Judged s v false Fine) (nine : codeOf (fieldAt (s .todo .node) .sense) ≡ 9 → ⊥)
-    (seen : List ℕ) (met : ℕ) where
+module _ (s : State) (d : Sound s) (v : ℕ) (j : Judged s v false Fine) (away : Directing s false) (seen : List ℕ) (met : ℕ) where
   pub fine-passed : {r : Outcome} → Entered s v r → Passed seen met s v r
-  fine-passed {r} e = passes seen met s v false false r (directs-not s nine) (λ h. absurd-flag false h refl) (stepped-goes s v false d r j e)
+  fine-passed {r} e = passes seen met s v false false r away (λ h. absurd-flag false h refl) (stepped-goes s v false d r j e)
 
   pub fine-noticed : met < length seen → v < 2 ^ fieldAt (s .todo .node) .width → Noticed seen met s v met seen
-  fine-noticed h l = notices seen met s v false met seen (directs-not s nine) h l (held-none seen met false s v refl)
+  fine-noticed h l = notices seen met s v false met seen away h l (held-none seen met false s v refl)
 
 -- whatever a field holds that may hold anything
 pub slight-free : {k v : ℕ} → codeOf (fieldAt k .sense) < 3 → Slight k v
@@ -106,5 +105,5 @@ module _ (s : State) (d : Sound s) (v : ℕ) (q : Slight (s .todo .node) v) {u :
           ∙ judge-range p (contextOf l s) (fieldAt (s .todo .node)) v r
       by (no g) = let r = lt-of-not-le g in judge-free p (contextOf l s) (fieldAt (s .todo .node)) v (omega arith)
 
-  pub slight-not : code ≡ 9 → ⊥
-  slight-not = kept-not 9 (omega arith) (omega arith)
+  pub slight-not : Directing s false
+  slight-not = directs-not s (kept-not 9 (omega arith) (omega arith))

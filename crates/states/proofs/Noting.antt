@@ -28,6 +28,10 @@ withPig s v = record { at = s .at; todo = s .todo; level = s .level; start = s .
 abbrev pub inPacket : State → ℕ → State
 inPacket s v = record { at = s .at; todo = s .todo; level = Packet; start = s .start; id = v; dir = 0; long = 0; userstart = 0; userlong = 0; pig = s .pig }
 
+-- the state in the CTCS packet that an NID_XUSER begins
+abbrev pub inUser : State → State
+inUser s = record { at = s .at; todo = s .todo; level = User; start = s .start; id = s .id; dir = s .dir; long = s .long; userstart = s .at; userlong = 0; pig = s .pig }
+
 module _ (s : State) (v : ℕ) where
   -- Q_DIR
   pub dir-header : s .level ≡ Header → Noted s 9 v s
@@ -65,7 +69,7 @@ module _ (s : State) (v : ℕ) where
   unfolding noted senseOf
   packet-opens = record { right = λ a b l. refl; here = refl; same = refl; first = refl; second = λ h. omega arith; small = λ h f. f refl }
 
-  pub user-opens : Noted s 8 v (record { at = s .at; todo = s .todo; level = User; start = s .start; id = s .id; dir = s .dir; long = s .long; userstart = s .at; userlong = 0; pig = s .pig })
+  pub user-opens : Noted s 8 v (inUser s)
   unfolding noted senseOf
   user-opens = record { right = λ a b l. refl; here = refl; same = refl; first = refl; second = λ h. omega arith; small = λ h f. h }
 

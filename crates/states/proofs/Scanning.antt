@@ -25,7 +25,7 @@ use Rattle.format.specs.declared.Kind.{Kind}
 use Rattle.format.specs.declared.Kind.the-variants.{Ended, Trailing}
 use Rattle.format.specs.declared.Answer.the-variants.{Accepted}
 use Rattle.laws.proofs.Sources.{Sent, from-bits, width-positive}
-use Rattle.states.specs.Machine.{view, contextOf, levelOf, Beginning, Sound, Advanced, later, Drifted, Slight, reached, freshAt, Judged, Settled, Entered}
+use Rattle.states.specs.Machine.{view, contextOf, levelOf, Beginning, Sound, Advanced, later, Drifted, Slight, reached, freshAt, Judged, Settled, Entered, Directing}
 use Rattle.states.specs.Machine.Drifted.{nothing, field}
 use Rattle.states.specs.Reader.{answerOf}
 use Rattle.states.specs.declared.State.{State}
@@ -203,11 +203,11 @@ scans-here i = record { low = i .low; wide = i .wide; drives = i .drives; here =
 -- past a value that keeps its rule, where no packet's Q_DIR is due
 module _ {s : List ℕ} {n : ℕ} {rows seen : List ℕ} {met : ℕ} {st : State} {c : Cursor} {count : ℕ} (i : Scans s n rows seen met st c count)
     {w : ℕ} (ew : w ≡ fieldAt (st .todo .node) .width) {t : Taken} (e : t ≡ takeAt s n w (c .at)) {v : ℕ} {next : Cursor} (h : t ≡ Field v next) where
-  pub scans-fine : Judged st v false Fine → (codeOf (fieldAt (st .todo .node) .sense) ≡ 9 → ⊥) → {r : State} → Entered st v (Go r)
+  pub scans-fine : Judged st v false Fine → Directing st false → {r : State} → Entered st v (Go r)
       → Scans s n rows seen met r next (count + 1)
-  scans-fine j nine a =
-      scans-on i ew e h (fine-passed st (i .drives .sound) v j nine seen met a) refl
-      (fine-noticed st (i .drives .sound) v j nine seen met (omega (arith, i .drives .noted, i .drives .long, i .within, i .low)) (fits i ew e h))
+  scans-fine j away a =
+      scans-on i ew e h (fine-passed st (i .drives .sound) v j away seen met a) refl
+      (fine-noticed st (i .drives .sound) v j away seen met (omega (arith, i .drives .noted, i .drives .long, i .within, i .low)) (fits i ew e h))
 
   -- and of which nothing is kept
   module _ (q : Slight (st .todo .node) v) {u : Todo} (a : Advanced (st .todo) v (On u)) where

@@ -9,11 +9,11 @@ use lib.ListN.{length, take}
 use Rattle.bits.specs.Take.{takeAt}
 use Rattle.bits.specs.declared.Taken.the-variants.{Field}
 use Rattle.format.specs.Rules.{among}
-use Rattle.format.specs.Table.{act, fieldAt, codeOf, etcsRow, words}
+use Rattle.format.specs.Table.{act, fieldAt, codeOf, etcsRow, ctcsRow, words}
 use Rattle.states.specs.Seen.{packetsIn}
 use Rattle.states.specs.declared.Begun.{Begun}
 use Rattle.states.specs.declared.Begun.the-variants.{To, Not}
-use Rattle.states.specs.declared.Level.the-variants.{Packet}
+use Rattle.states.specs.declared.Level.the-variants.{Packet, User}
 use Rattle.states.specs.declared.State.{State}
 
 -- ---- the header
@@ -104,3 +104,34 @@ pub record Opened (bytes : List ℕ) (n : ℕ) (seen : List ℕ) (met : ℕ) (s 
 abbrev pub Headed : List ℕ → ℕ → List ℕ → ℕ → State → Begun → Type 0
 Headed bytes n seen met s (To r) = Opened bytes n seen met s r
 Headed bytes n seen met s Not = Unit
+
+-- ---- the head of a CTCS packet, whose NID_XUSER, Q_DIR and L_PACKET are 24
+
+abbrev pub nested : State → ℕ → State
+nested s a =
+    record {
+      at = s .at + 24;
+      todo = record { node = ctcsRow (idIn a) + 2; left = 0; outer = 0 };
+      level = User;
+      start = s .start;
+      id = s .id;
+      dir = s .dir;
+      long = s .long;
+      userstart = s .at;
+      userlong = longIn a;
+      pig = s .pig;
+    }
+
+-- the head keeps every rule, the Q_DIR is that of the packet around it, and a field follows it
+pub record Nested (bytes : List ℕ) (n : ℕ) (s : State) (r : State) : Type 0 where
+  pub bits : ℕ
+  pub field : takeAt bytes n 24 (s .at) ≡ Field bits (record { at = s .at + 24 })
+  pub known : codeOf (fieldAt (ctcsRow (idIn bits)) .sense) ≡ 9
+  pub more : act (ctcsRow (idIn bits) + 2) ≡ 0 → ⊥
+  pub allowed : dirIn bits ≤ 2
+  pub alike : dirIn bits ≡ s .dir
+  pub state : r ≡ nested s bits
+
+abbrev pub Inward : List ℕ → ℕ → State → Begun → Type 0
+Inward bytes n s (To r) = Nested bytes n s r
+Inward bytes n s Not = Unit

@@ -1,6 +1,8 @@
-// What stands in front, taken as one field: the header's first 25 bits, with all of it that a rule reads, and a packet's NID_PACKET, Q_DIR and
-// L_PACKET, which are 23.
-ghost use Rattle.states.specs.Heads.{Started, Heading, Headed};
+// What stands in front, taken as one field: the header's first 25 bits, with all of it that a rule reads; a packet's NID_PACKET, Q_DIR and
+// L_PACKET, which are 23; and those of a CTCS packet, which are 24.
+ghost use mathlib.Core.Path.{_≡_};
+ghost use Rattle.format.specs.Table.{words};
+ghost use Rattle.states.specs.Heads.{Started, Heading, Headed, Inward};
 use crate::rows::act;
 use crate::rows::code;
 use bits::Cursor;
@@ -103,6 +105,50 @@ pub(crate) fn head(
         long: a % 8192,
         userstart: 0,
         userlong: 0,
+        pig: st.pig,
+    })
+}
+
+// The head of the CTCS packet that begins here, if it keeps every rule, its Q_DIR is that of the packet around it, and a field follows it.
+pub(crate) fn inner(rows: &[u32; 213], s: &[u8], n: usize, st: State) -> Begun
+    requires { ⌜ now rows ≡ words ⌝ }
+    ensures { λ r. ⌜ Inward (now (s .entry)) n st r ⌝ }
+{
+    let c = Cursor { at: st.at };
+    let Taken::Field(a, next) = c.take(s, n, 24) else {
+        return Begun::Not;
+    };
+    let id = a / 32768;
+    let dir = a / 8192 % 4;
+    let p = packets::ctcs(id);
+    let row = p.row;
+    if code(rows, row) != DIRECTION {
+        return Begun::Not;
+    }
+    if act(rows, row + 2) == END {
+        return Begun::Not;
+    }
+    if dir == 3 {
+        return Begun::Not;
+    }
+    if dir != st.dir {
+        return Begun::Not;
+    }
+    let todo = Todo {
+        node: row + 2,
+        left: 0,
+        outer: 0,
+    };
+    Begun::To(State {
+        at: next.at,
+        todo,
+        level: Level::User,
+        start: st.start,
+        id: st.id,
+        dir: st.dir,
+        long: st.long,
+        userstart: st.at,
+        userlong: a % 8192,
         pig: st.pig,
     })
 }

@@ -18,7 +18,9 @@ use crate::driver::turn;
 use crate::earlier::note;
 use crate::head::head;
 use crate::head::header;
+use crate::head::inner;
 use crate::machine::fresh;
+use crate::rows::act;
 use crate::rows::width;
 use crate::state::begin;
 use crate::todo::advance;
@@ -34,6 +36,7 @@ use states::Outcome;
 use states::State;
 use states::Todo;
 use states::closes;
+use states::codes::NEST;
 use states::refused;
 use states::sized;
 
@@ -121,6 +124,13 @@ fn walk(
         if t.node == 0 {
             if let Begun::To(after) = head(rows, s, n, seen, met, st) {
                 met = note(seen, met, true, after, after.dir);
+                st = after;
+                count += 3;
+                continue;
+            }
+        }
+        if act(rows, t.node) == NEST {
+            if let Begun::To(after) = inner(rows, s, n, st) {
                 st = after;
                 count += 3;
                 continue;
