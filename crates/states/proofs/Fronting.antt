@@ -178,7 +178,7 @@ module _ (s : List ℕ) (n : ℕ) (rows seen : List ℕ) (low : n ≤ 830) (wide
       entered-on s10 link (inHeader 50 11 0 .todo) s10 50 _ to-end
       (nothing s10 link 0 (λ e. omega arith) (λ e. omega arith) (λ e. omega arith) (λ e. omega arith) (λ e. omega arith)) refl
       (settled-fresh (inHeader 50 11 (pigIn a)) (record { tidy = to-end .tidy; first = omega arith; second = omega arith; small = omega arith }) refl
-      (λ l. sym (closes-header (inHeader 50 11 (pigIn a)) l refl)))
+      (λ l. sym (closes-header (inHeader 50 11 (pigIn a)) 50 l refl)))
 
   takes-link : takeAt s n 1 49 ≡ Field link (record { at = 50 })
   takes-link = any 1 49 (omega arith) (omega arith)

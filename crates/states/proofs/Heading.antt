@@ -2,10 +2,13 @@
 -- after the other, and comes to the same state. Assumes nothing.
 use mathlib.Core.Bool.{true, false}
 use mathlib.Core.List.{List}
+use mathlib.Core.Logic.{⊎-elim, inl, inr}
 use mathlib.Core.Path.{_≡_, refl, sym, ap, _∙_, subst}
 use Prim.Native.Nat.{ℕ, _+_, _-_, _<_}
 use native.Mathlib.Nat.{add-zero}
 use native.Mathlib.Omega.{arith}
+use borrow.Author.Tests.{eq-eqb, ne-eqb, eqb-true}
+use lib.Dec.{eqb}
 use lib.ListN.{length}
 use Rattle.bits.specs.Take.{takeAt}
 use Rattle.bits.specs.declared.Cursor.{Cursor}
@@ -16,9 +19,10 @@ use Rattle.format.specs.Table.{act, fieldAt, codeOf, etcsRow, ctcsRow}
 use Rattle.format.specs.Kinds.{etcsStart, ctcsStart}
 use Rattle.format.proofs.Heads.{HeadRows, head-rows, between}
 use Rattle.format.proofs.Rows.{next-in, etcs-in, ctcs-in, none-act, nest-field, packet-width, direction-width, size-width}
-use Rattle.states.specs.Heads.{idIn, dirIn, longIn, opened, Opened, nested, Nested}
+use Rattle.states.specs.Heads.{idIn, dirIn, longIn, opened, Opened, Headed, nested, Nested, Inward, Led}
 use Rattle.states.specs.Machine.{reached, contextOf, Advanced, Noted, Sound, Judged, Entered, Directing}
 use Rattle.states.specs.Seen.{Held, Passed}
+use Rattle.states.specs.declared.Begun.{Begun}
 use Rattle.states.specs.declared.Outcome.the-variants.{Go}
 use Rattle.states.specs.declared.Level.the-variants.{Packet, User}
 use Rattle.states.specs.declared.State.{State}
@@ -32,6 +36,7 @@ use Rattle.states.proofs.Scanning.{Scans, scans-on, scans-fine, fits}
 use Rattle.states.proofs.Senses.{rule-direction, judge-free, judge-packet, judge-user, judge-direction, packet-some, user-some, direction-once, direction-same}
 use Rattle.states.proofs.Stepping.{settled-goes, entered-on, stepped-goes}
 use Rattle.format.specs.Fields as fields
+use Rattle.states.specs.declared.Begun.the-variants as begun
 
 -- the rows of a head and the one behind them are in the table
 pub head-inside : (k : ℕ) → k < 213 → codeOf (fieldAt k .sense) ≡ 9 → k + 2 < 213
@@ -204,17 +209,17 @@ module _ {s : List ℕ} {n : ℕ} {rows seen : List ℕ} {met : ℕ} {st : State
 
     -- the whole head
 
-    pub scans-headed : Scans s n rows seen2 met2 r (record { at = r .at }) (count + 3)
+    scans-headed : Scans s n rows seen2 met2 r (record { at = r .at }) (count + 3)
     scans-headed = let e : count + 3 ≡ count + 1 + 1 + 1 = omega arith in rw (o .state, e) scans3
 
-  pub less-headed : n - r .at < n - st .at
+  less-headed : n - r .at < n - st .at
   less-headed = rw (o .state) (omega (arith, whole .within))
 
   -- what the note of it needs
-  pub head-id : r .id < 256
+  head-id : r .id < 256
   head-id = rw (o .state) id-small
 
-  pub head-dir : r .dir < 4
+  head-dir : r .dir < 4
   head-dir = rw (o .state) (omega arith)
 
 -- ---- the head of a CTCS packet
@@ -317,8 +322,39 @@ module _ {s : List ℕ} {n : ℕ} {rows seen : List ℕ} {met : ℕ} {st : State
 
   -- the whole head
 
-  pub scans-nested : Scans s n rows seen met r (record { at = r .at }) (count + 3)
+  scans-nested : Scans s n rows seen met r (record { at = r .at }) (count + 3)
   scans-nested = let e : count + 3 ≡ count + 1 + 1 + 1 = omega arith in rw (o .state, e) goes3
 
-  pub less-nested : n - r .at < n - st .at
+  less-nested : n - r .at < n - st .at
   less-nested = rw (o .state) (omega (arith, all .within))
+
+-- ---- either of the two
+
+module _ (s : List ℕ) (n : ℕ) (seen : List ℕ) (met : ℕ) (st : State) where
+  pub led-packet : (b : Begun) → st .todo .node ≡ 0 → Headed s n seen met st b → Led s n seen met st b
+  led-packet (begun.To r) e o = inl (e, o)
+  led-packet begun.Not e o = tt
+
+  pub led-inner : (b : Begun) → (st .todo .node ≡ 0 → ⊥) → act (st .todo .node) ≡ 1 → Inward s n st b → Led s n seen met st b
+  led-inner (begun.To r) e z o = inr (e, z, o)
+  led-inner begun.Not e z o = tt
+
+module _ {s : List ℕ} {n : ℕ} {rows seen : List ℕ} {met : ℕ} {st : State} {c : Cursor} {count : ℕ} (i : Scans s n rows seen met st c count)
+    {r : State} (o : Led s n seen met st (begun.To r)) where
+  -- only a packet's own head is kept
+  pub scans-led : {met2 : ℕ} {seen2 : List ℕ} → Held seen met (eqb (st .todo .node) 0) r (r .dir) met2 seen2
+      → Scans s n rows seen2 met2 r (record { at = r .at }) (count + 3)
+  scans-led {met2} {seen2} held =
+      ⊎-elim (λ w. scans-headed i (w .0) (w .1) (rw (eq-eqb (st .todo .node) 0 (w .0)) at held))
+      (λ w.
+      let h = rw (ne-eqb (st .todo .node) 0 (w .0)) at held in
+      rw (h .count, h .contents) (scans-nested i (w .1) (w .2))) o
+
+  pub less-led : n - r .at < n - st .at
+  less-led = ⊎-elim (λ w. less-headed i (w .0) (w .1)) (λ w. less-nested i (w .1) (w .2)) o
+
+  pub led-id : r .id < 256
+  led-id = ⊎-elim (λ w. head-id i (w .0) (w .1)) (λ w. rw (w .2 .state) (i .drives .sound .small)) o
+
+  pub led-dir : eqb (st .todo .node) 0 ≡ true → r .dir < 4
+  led-dir e = ⊎-elim (λ w. head-dir i (w .0) (w .1)) (λ w. absurd (w .0 (eqb-true (st .todo .node) 0 e))) o

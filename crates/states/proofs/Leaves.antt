@@ -34,8 +34,8 @@ unread-once told a c = equation-once (unread told a c)
 pub slight-once : (c low high v : ℕ) → Once (λ r. r ≡ slight c low high v)
 slight-once c low high v = equation-once (slight c low high v)
 
-pub closes-once : (s : State) → Once (λ r. (l : List Earlier) → r ≡ rules.closes (s .at) (contextOf l s) (levelOf (s .level)))
-closes-once s a b p q = p [] ∙ sym (q [])
+pub closes-once : (s : State) (at : ℕ) → Once (λ r. (l : List Earlier) → r ≡ rules.closes at (contextOf l s) (levelOf (s .level)))
+closes-once s at a b p q = p [] ∙ sym (q [])
 
 pub refused-once : (k : Kind) (s : State) (v : ℕ)
     → Once (λ r. (l : List Earlier) → r ≡ Refused (record { kind = k; place = packetPlace k (view l s) v }))

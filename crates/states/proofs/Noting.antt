@@ -91,21 +91,21 @@ module _ (s : State) (v : ℕ) where
 
 -- ---- a packet's end
 
-module _ (s : State) (l : List Earlier) where
-  pub closes-header : s .level ≡ Header → true ≡ closes (s .at) (contextOf l s) (levelOf (s .level))
+module _ (s : State) (at : ℕ) (l : List Earlier) where
+  pub closes-header : s .level ≡ Header → true ≡ closes at (contextOf l s) (levelOf (s .level))
   unfolding closes
   closes-header e = rw e
 
-  pub closes-packet : s .level ≡ Packet → eqb (s .at - s .start) (s .long) ≡ closes (s .at) (contextOf l s) (levelOf (s .level))
+  pub closes-packet : s .level ≡ Packet → eqb (at - s .start) (s .long) ≡ closes at (contextOf l s) (levelOf (s .level))
   unfolding closes
   closes-packet e = rw e
 
-  pub closes-inner : s .level ≡ User → (s .at - s .userstart ≡ s .userlong → ⊥)
-      → false ≡ closes (s .at) (contextOf l s) (levelOf (s .level))
+  pub closes-inner : s .level ≡ User → (at - s .userstart ≡ s .userlong → ⊥)
+      → false ≡ closes at (contextOf l s) (levelOf (s .level))
   unfolding closes
-  closes-inner e n = rw e (simp (ne-eqb (s .at - s .userstart) (s .userlong) n))
+  closes-inner e n = rw e (simp (ne-eqb (at - s .userstart) (s .userlong) n))
 
-  pub closes-outer : s .level ≡ User → s .at - s .userstart ≡ s .userlong
-      → eqb (s .at - s .start) (s .long) ≡ closes (s .at) (contextOf l s) (levelOf (s .level))
+  pub closes-outer : s .level ≡ User → at - s .userstart ≡ s .userlong
+      → eqb (at - s .start) (s .long) ≡ closes at (contextOf l s) (levelOf (s .level))
   unfolding closes
-  closes-outer e n = rw e (simp (eq-eqb (s .at - s .userstart) (s .userlong) n))
+  closes-outer e n = rw e (simp (eq-eqb (at - s .userstart) (s .userlong) n))

@@ -3,6 +3,7 @@
 use mathlib.Core.Path.{_≡_}
 use mathlib.Core.Bool.{false, not, _&&_}
 use mathlib.Core.List.{List}
+use mathlib.Core.Logic.{_⊎_}
 use Prim.Native.Nat.{ℕ, _+_, _/_, _%_, _≤_}
 use lib.Dec.{eqb}
 use lib.ListN.{length, take}
@@ -135,3 +136,10 @@ pub record Nested (bytes : List ℕ) (n : ℕ) (s : State) (r : State) : Type 0 
 abbrev pub Inward : List ℕ → ℕ → State → Begun → Type 0
 Inward bytes n s (To r) = Nested bytes n s r
 Inward bytes n s Not = Unit
+
+-- ---- either of the two, by what is due: row 0 is between packets, and NID_XUSER is due where a packet holds another
+
+abbrev pub Led : List ℕ → ℕ → List ℕ → ℕ → State → Begun → Type 0
+Led bytes n seen met s (To r) =
+    ((s .todo .node ≡ 0) × Opened bytes n seen met s r) ⊎ ((s .todo .node ≡ 0 → ⊥) × (act (s .todo .node) ≡ 1) × Nested bytes n s r)
+Led bytes n seen met s Not = Unit

@@ -100,19 +100,19 @@ pub fn noted(s: State, c: u32, v: u64) -> State
 
 // ---- a packet's end
 
-// Every packet that ends here is as long as its L_PACKET says, the inner one tested first.
-pub fn closes(s: State) -> bool
-    ensures { λ r. ⌜ ((l : List Earlier) → r ≡ rules.closes (s .at) (contextOf l s) (levelOf (s .level))) ⌝ }
+// Every packet that ends at the bit at is as long as its L_PACKET says, the inner one tested first.
+pub fn closes(s: State, at: usize) -> bool
+    ensures { λ r. ⌜ ((l : List Earlier) → r ≡ rules.closes at (contextOf l s) (levelOf (s .level))) ⌝ }
 {
     let l = s.level;
     match l {
         Level::Header => true,
-        Level::Packet => since(s.at, s.start) == s.long,
+        Level::Packet => since(at, s.start) == s.long,
         Level::User => {
-            if since(s.at, s.userstart) != s.userlong {
+            if since(at, s.userstart) != s.userlong {
                 return false;
             }
-            since(s.at, s.start) == s.long
+            since(at, s.start) == s.long
         }
     }
 }

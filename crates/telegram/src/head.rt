@@ -1,8 +1,9 @@
 // What stands in front, taken as one field: the header's first 25 bits, with all of it that a rule reads; a packet's NID_PACKET, Q_DIR and
 // L_PACKET, which are 23; and those of a CTCS packet, which are 24.
 ghost use mathlib.Core.Path.{_≡_};
+ghost use Prim.Native.Nat.{_<_};
 ghost use Rattle.format.specs.Table.{words};
-ghost use Rattle.states.specs.Heads.{Started, Heading, Headed, Inward};
+ghost use Rattle.states.specs.Heads.{Started, Heading, Headed, Inward, Led};
 use crate::rows::act;
 use crate::rows::code;
 use bits::Cursor;
@@ -15,6 +16,7 @@ use states::State;
 use states::Todo;
 use states::codes::DIRECTION;
 use states::codes::END;
+use states::codes::NEST;
 use states::collides;
 
 // The header. Its first three fields are 1, 16 and 0, which is 288 in nine bits.
@@ -57,9 +59,8 @@ pub(crate) fn header(s: &[u8], n: usize) -> Begun
     })
 }
 
-// The head of the packet that begins here, after the packets of the first met of seen, if it keeps every rule and a field follows it. Row 0,
-// which stands for no packet, has no Q_DIR.
-pub(crate) fn head(
+// The head that is due, if one is: of a packet, after the packets of the first met of seen, or of the CTCS packet inside one.
+pub(crate) fn leading(
     rows: &[u32; 213],
     s: &[u8],
     n: usize,
@@ -67,6 +68,22 @@ pub(crate) fn head(
     met: usize,
     st: State,
 ) -> Begun
+    requires { ⌜ Heading (now rows) (now seen) met × (st .todo .node < 213) ⌝ }
+    ensures { λ r. ⌜ Led (now (s .entry)) n (now (seen .entry)) met st r ⌝ }
+{
+    let t = st.todo;
+    if t.node == 0 {
+        return head(rows, s, n, seen, met, st);
+    }
+    if act(rows, t.node) == NEST {
+        return inner(rows, s, n, st);
+    }
+    Begun::Not
+}
+
+// The head of the packet that begins here, after the packets of the first met of seen, if it keeps every rule and a field follows it. Row 0,
+// which stands for no packet, has no Q_DIR.
+fn head(rows: &[u32; 213], s: &[u8], n: usize, seen: &[u16], met: usize, st: State) -> Begun
     requires { ⌜ Heading (now rows) (now seen) met ⌝ }
     ensures { λ r. ⌜ Headed (now (s .entry)) n (now (seen .entry)) met st r ⌝ }
 {
@@ -110,7 +127,7 @@ pub(crate) fn head(
 }
 
 // The head of the CTCS packet that begins here, if it keeps every rule, its Q_DIR is that of the packet around it, and a field follows it.
-pub(crate) fn inner(rows: &[u32; 213], s: &[u8], n: usize, st: State) -> Begun
+fn inner(rows: &[u32; 213], s: &[u8], n: usize, st: State) -> Begun
     requires { ⌜ now rows ≡ words ⌝ }
     ensures { λ r. ⌜ Inward (now (s .entry)) n st r ⌝ }
 {
@@ -128,7 +145,7 @@ pub(crate) fn inner(rows: &[u32; 213], s: &[u8], n: usize, st: State) -> Begun
     if act(rows, row + 2) == END {
         return Begun::Not;
     }
-    if dir == 3 {
+    if 2 < dir {
         return Begun::Not;
     }
     if dir != st.dir {

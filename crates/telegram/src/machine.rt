@@ -30,7 +30,7 @@ fn settled(rows: &[u32; 213], s: State) -> Outcome
     if act(rows, k) != END {
         return Outcome::Go(s);
     }
-    if !closes(s) {
+    if !closes(s, s.at) {
         return Outcome::Breaks(Kind::Length);
     }
     Outcome::Go(fresh(s.at, s.pig))

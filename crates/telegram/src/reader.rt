@@ -16,11 +16,9 @@ use crate::driver::ease;
 use crate::driver::keep;
 use crate::driver::turn;
 use crate::earlier::note;
-use crate::head::head;
 use crate::head::header;
-use crate::head::inner;
+use crate::head::leading;
 use crate::machine::fresh;
-use crate::rows::act;
 use crate::rows::width;
 use crate::state::begin;
 use crate::todo::advance;
@@ -36,7 +34,6 @@ use states::Outcome;
 use states::State;
 use states::Todo;
 use states::closes;
-use states::codes::NEST;
 use states::refused;
 use states::sized;
 
@@ -121,20 +118,11 @@ fn walk(
         st.at = c.at;
         st.todo = t;
         count += g.fields;
-        if t.node == 0 {
-            if let Begun::To(after) = head(rows, s, n, seen, met, st) {
-                met = note(seen, met, true, after, after.dir);
-                st = after;
-                count += 3;
-                continue;
-            }
-        }
-        if act(rows, t.node) == NEST {
-            if let Begun::To(after) = inner(rows, s, n, st) {
-                st = after;
-                count += 3;
-                continue;
-            }
+        if let Begun::To(after) = leading(rows, s, n, seen, met, st) {
+            met = note(seen, met, t.node == 0, after, after.dir);
+            st = after;
+            count += 3;
+            continue;
         }
         let Taken::Field(v, next) = c.take(s, n, width(rows, t.node)) else {
             return refused(Kind::Ended, st, 0);
@@ -146,11 +134,8 @@ fn walk(
                 count += 1;
                 continue;
             }
-            Easy::Ends(u) => {
-                let mut past = st;
-                past.at = next.at;
-                past.todo = u;
-                if closes(past) {
+            Easy::Ends(_) => {
+                if closes(st, next.at) {
                     st = fresh(next.at, st.pig);
                     count += 1;
                     continue;

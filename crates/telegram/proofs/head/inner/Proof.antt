@@ -62,13 +62,12 @@ returns-6 : tie.Need-returns-6
 returns-6 c =
     let f = taken _ _ _ _ _ _ (sym (c .before .before .before .before .before .before .before .before .before .before .before .take .ensures) ∙ c .before .before .before .before .before .before .before .before .before .a .given .1) in
     let k = ctcs-row _ (c .before .before .before .before .before .before .before .ctcs .result) (c .before .before .before .before .before .before .before .ctcs .ensures) in
-    let d = c .before .before .if3 .left in
     record {
       bits = c .before .before .before .before .before .before .before .before .before .a .given .0 .0;
       field = sym (c .before .before .before .before .before .before .before .before .before .before .before .take .ensures) ∙ c .before .before .before .before .before .before .before .before .before .a .given .1 ∙ ap (λ (x : ℕ). Field (c .before .before .before .before .before .before .before .before .before .a .given .0 .0) (record { at = x })) (f .past);
       known = rw k (sym (c .before .before .before .before .before .before .code .ensures) ∙ c .before .before .before .before .before .if1 .left);
       more = λ e. c .before .before .before .if2 .left (c .before .before .before .before .act .ensures ∙ rw (← k) e);
-      allowed = omega arith;
+      allowed = c .before .before .if3 .left;
       alike = c .if4 .left;
       state = rw (k, ← (f .past));
     }

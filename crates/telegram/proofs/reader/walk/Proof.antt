@@ -7,7 +7,7 @@ use native.Mathlib.Omega.{arith}
 use borrow.Author.Needs.{needs}
 use Rattle.states.specs.Reader.{answerOf}
 use Rattle.states.proofs.Drifting.{further}
-use Rattle.states.proofs.Heading.{head-id, head-dir, scans-headed, less-headed, scans-nested, less-nested}
+use Rattle.states.proofs.Heading.{led-id, led-dir, scans-led, less-led}
 use Rattle.states.proofs.Scanning.{Scans, scans-here, scans-drifted, scans-slight, scans-closed, less-slight, scans-on, fits, less, ends-short, ends-broken, ends-well, ends-trailing}
 use Rattle.telegram.proofs.reader.walk.Statement.{statement}
 use Rattle.telegram.proofs.reader.walk.Tie as tie
@@ -31,82 +31,46 @@ add-count c =
     let i = scans-drifted (c .before .before .before .before .loop .inv) (c .before .before .before .drift .ensures) in
     omega (arith, i .few, i .within, i .low)
 
--- a packet's head
+-- a head
 
-head-requires : tie.Need-head-requires Inv-loop μ-loop
-head-requires c κs =
-    let i = scans-drifted (c .before .before .before .before .before .before .before .before .loop .inv) (c .before .before .before .before .before .before .before .drift .ensures) in
-    record { table = i .drives .table; inside = omega (arith, i .drives .noted, i .within, i .low, i .drives .long) }
+leading-requires : tie.Need-leading-requires Inv-loop μ-loop
+leading-requires c κs =
+    let i = scans-drifted (c .before .before .before .before .before .before .loop .inv) (c .before .before .before .before .before .drift .ensures) in
+    (record { table = i .drives .table; inside = omega (arith, i .drives .noted, i .within, i .low, i .drives .long) }, i .drives .sound .tidy .inside)
 
 enum-known-after : tie.Need-enum-known-after Inv-loop μ-loop
 enum-known-after c = search needs
 
 note-requires : tie.Need-note-requires Inv-loop μ-loop
 note-requires c κs =
-    let i = scans-drifted (c .before .before .before .before .before .before .before .before .before .before .before .before .before .loop .inv) (c .before .before .before .before .before .before .before .before .before .before .before .before .drift .ensures) in
-    let o = rw (c .before .before .after .given .1) at (c .before .before .before .before .head .ensures) in
-    record {
-      inside = omega (arith, i .drives .noted, i .within, i .low, i .drives .long);
-      small = head-id i (c .before .before .before .before .before .before .before .if1 .taken) o;
-      fits = λ e. head-dir i (c .before .before .before .before .before .before .before .if1 .taken) o;
-    }
+    let i = scans-drifted (c .before .before .before .before .before .before .before .before .before .before .before .before .loop .inv) (c .before .before .before .before .before .before .before .before .before .before .before .drift .ensures) in
+    let o = rw (c .before .before .before .after .given .1) at (c .before .before .before .before .before .leading .ensures) in
+    record { inside = omega (arith, i .drives .noted, i .within, i .low, i .drives .long); small = led-id i o; fits = led-dir i o }
 
 add-count-2 : tie.Need-add-count-2 Inv-loop μ-loop
 add-count-2 c =
-    let i = scans-drifted (c .before .before .before .before .before .before .before .before .before .before .before .before .before .before .loop .inv) (c .before .before .before .before .before .before .before .before .before .before .before .before .before .drift .ensures) in
+    let i = scans-drifted (c .before .before .before .before .before .before .before .before .before .before .before .before .before .loop .inv) (c .before .before .before .before .before .before .before .before .before .before .before .before .drift .ensures) in
     omega (arith, i .few, i .within, i .low)
 
 loop-less : tie.Need-loop-less Inv-loop μ-loop
 loop-less c =
-    let i = scans-drifted (c .before .before .before .before .before .before .before .before .before .before .before .before .before .before .loop .inv) (c .before .before .before .before .before .before .before .before .before .before .before .before .before .drift .ensures) in
-    let l = less-headed i (c .before .before .before .before .before .before .before .before .if1 .taken) (rw (c .before .before .before .after .given .1) at (c .before .before .before .before .before .head .ensures)) in
-    omega (arith, further (c .before .before .before .before .before .before .before .before .before .before .before .before .before .drift .ensures))
+    let i = scans-drifted (c .before .before .before .before .before .before .before .before .before .before .before .before .before .loop .inv) (c .before .before .before .before .before .before .before .before .before .before .before .before .drift .ensures) in
+    let l = less-led i (rw (c .before .before .before .before .after .given .1) at (c .before .before .before .before .before .before .leading .ensures)) in
+    omega (arith, further (c .before .before .before .before .before .before .before .before .before .before .before .before .drift .ensures))
 
 loop-again : tie.Need-loop-again Inv-loop μ-loop
 loop-again c =
-    let i = scans-drifted (c .before .before .before .before .before .before .before .before .before .before .before .before .before .before .loop .inv) (c .before .before .before .before .before .before .before .before .before .before .before .before .before .drift .ensures) in
-    scans-headed i (c .before .before .before .before .before .before .before .before .if1 .taken) (rw (c .before .before .before .after .given .1) at (c .before .before .before .before .before .head .ensures)) (c .note .ensures)
+    let i = scans-drifted (c .before .before .before .before .before .before .before .before .before .before .before .before .before .loop .inv) (c .before .before .before .before .before .before .before .before .before .before .before .before .drift .ensures) in
+    scans-led i (rw (c .before .before .before .before .after .given .1) at (c .before .before .before .before .before .before .leading .ensures)) (c .note .ensures)
 
 enum-told : tie.Need-enum-told Inv-loop μ-loop
 enum-told c = search needs
-
--- the head of a CTCS packet
-
-act-requires : tie.Need-act-requires Inv-loop μ-loop
-act-requires c κs =
-    let i = scans-drifted (c .before .before .before .before .before .before .loop .inv) (c .before .before .before .before .before .drift .ensures) in
-    record { table = i .drives .table; inside = i .drives .sound .tidy .inside }
-
-inner-requires : tie.Need-inner-requires Inv-loop μ-loop
-inner-requires c κs = c .before .before .before .before .before .before .before .before .loop .inv .drives .table
-
-enum-known-after-2 : tie.Need-enum-known-after-2 Inv-loop μ-loop
-enum-known-after-2 c = search needs
-
-add-count-3 : tie.Need-add-count-3 Inv-loop μ-loop
-add-count-3 c =
-    let i = scans-drifted (c .before .before .before .before .before .before .before .before .before .before .before .before .loop .inv) (c .before .before .before .before .before .before .before .before .before .before .before .drift .ensures) in
-    omega (arith, i .few, i .within, i .low)
-
-loop-less-2 : tie.Need-loop-less-2 Inv-loop μ-loop
-loop-less-2 c =
-    let i = scans-drifted (c .before .before .before .before .before .before .before .before .before .before .before .before .loop .inv) (c .before .before .before .before .before .before .before .before .before .before .before .drift .ensures) in
-    let l = less-nested i (sym (c .before .before .before .before .before .act .ensures) ∙ c .before .before .before .before .if2 .taken) (rw (c .before .after2 .given .1) at (c .before .before .before .inner .ensures)) in
-    omega (arith, further (c .before .before .before .before .before .before .before .before .before .before .before .drift .ensures))
-
-loop-again-2 : tie.Need-loop-again-2 Inv-loop μ-loop
-loop-again-2 c =
-    let i = scans-drifted (c .before .before .before .before .before .before .before .before .before .before .before .before .loop .inv) (c .before .before .before .before .before .before .before .before .before .before .before .drift .ensures) in
-    scans-nested i (sym (c .before .before .before .before .before .act .ensures) ∙ c .before .before .before .before .if2 .taken) (rw (c .before .after2 .given .1) at (c .before .before .before .inner .ensures))
-
-enum-told-2 : tie.Need-enum-told-2 Inv-loop μ-loop
-enum-told-2 c = search needs
 
 -- a field
 
 width-requires : tie.Need-width-requires Inv-loop μ-loop
 width-requires c κs =
-    let i = scans-drifted (c .before .before .before .before .before .before .before .before .loop .inv) (c .before .before .before .before .before .before .before .drift .ensures) in
+    let i = scans-drifted (c .before .before .before .before .before .before .before .before .before .loop .inv) (c .before .before .before .before .before .before .before .before .drift .ensures) in
     record { table = i .drives .table; inside = i .drives .sound .tidy .inside }
 
 take-requires : tie.Need-take-requires Inv-loop μ-loop
@@ -115,49 +79,49 @@ take-requires c κs = search needs
 enum-known-v : tie.Need-enum-known-v Inv-loop μ-loop
 enum-known-v c = search needs
 
-enum-told-3 : tie.Need-enum-told-3 Inv-loop μ-loop
-enum-told-3 c = search needs
+enum-told-2 : tie.Need-enum-told-2 Inv-loop μ-loop
+enum-told-2 c = search needs
 
 refused-requires : tie.Need-refused-requires Inv-loop μ-loop
 refused-requires c κs = search needs
 
 returns : tie.Need-returns Inv-loop μ-loop
 returns c =
-    let i = scans-drifted (c .before .before .before .before .before .before .before .before .before .before .before .before .before .loop .inv) (c .before .before .before .before .before .before .before .before .before .before .before .before .drift .ensures) in
-    c .refused .ensures [] ∙ sym (ap answerOf (ends-short i (c .before .before .before .before .width .ensures) (c .before .before .before .take .ensures) (c .before .enum-told3 .given .1)))
+    let i = scans-drifted (c .before .before .before .before .before .before .before .before .before .before .before .before .before .before .loop .inv) (c .before .before .before .before .before .before .before .before .before .before .before .before .before .drift .ensures) in
+    c .refused .ensures [] ∙ sym (ap answerOf (ends-short i (c .before .before .before .before .width .ensures) (c .before .before .before .take .ensures) (c .before .enum-told2 .given .1)))
 
 -- a value of which nothing is kept
 
 ease-requires : tie.Need-ease-requires Inv-loop μ-loop
 ease-requires c κs =
-    let i = scans-drifted (c .before .before .before .before .before .before .before .before .before .before .before .before .before .loop .inv) (c .before .before .before .before .before .before .before .before .before .before .before .before .drift .ensures) in
+    let i = scans-drifted (c .before .before .before .before .before .before .before .before .before .before .before .before .before .before .loop .inv) (c .before .before .before .before .before .before .before .before .before .before .before .before .before .drift .ensures) in
     (i .drives .table, i .drives .sound .tidy)
 
 enum-known-u : tie.Need-enum-known-u Inv-loop μ-loop
 enum-known-u c = search needs
 
-add-count-4 : tie.Need-add-count-4 Inv-loop μ-loop
-add-count-4 c =
-    let i = scans-drifted (c .before .before .before .before .before .before .before .before .before .before .before .before .before .before .before .before .before .loop .inv) (c .before .before .before .before .before .before .before .before .before .before .before .before .before .before .before .before .drift .ensures) in
+add-count-3 : tie.Need-add-count-3 Inv-loop μ-loop
+add-count-3 c =
+    let i = scans-drifted (c .before .before .before .before .before .before .before .before .before .before .before .before .before .before .before .before .before .before .loop .inv) (c .before .before .before .before .before .before .before .before .before .before .before .before .before .before .before .before .before .drift .ensures) in
     omega (arith, i .few, i .within, i .low)
 
-loop-less-3 : tie.Need-loop-less-3 Inv-loop μ-loop
-loop-less-3 c =
-    let i = scans-drifted (c .before .before .before .before .before .before .before .before .before .before .before .before .before .before .before .before .before .loop .inv) (c .before .before .before .before .before .before .before .before .before .before .before .before .before .before .before .before .drift .ensures) in
+loop-less-2 : tie.Need-loop-less-2 Inv-loop μ-loop
+loop-less-2 c =
+    let i = scans-drifted (c .before .before .before .before .before .before .before .before .before .before .before .before .before .before .before .before .before .before .loop .inv) (c .before .before .before .before .before .before .before .before .before .before .before .before .before .before .before .before .before .drift .ensures) in
     let q = rw (c .before .u .given .1) at (c .before .before .before .ease .ensures) in
     let l = less-slight i (c .before .before .before .before .before .before .before .before .width .ensures) (c .before .before .before .before .before .before .before .take .ensures) (c .before .before .before .before .before .v .given .1) (q .0) (q .1) in
-    omega (arith, further (c .before .before .before .before .before .before .before .before .before .before .before .before .before .before .before .before .drift .ensures))
+    omega (arith, further (c .before .before .before .before .before .before .before .before .before .before .before .before .before .before .before .before .before .drift .ensures))
 
-loop-again-3 : tie.Need-loop-again-3 Inv-loop μ-loop
-loop-again-3 c =
-    let i = scans-drifted (c .before .before .before .before .before .before .before .before .before .before .before .before .before .before .before .before .before .loop .inv) (c .before .before .before .before .before .before .before .before .before .before .before .before .before .before .before .before .drift .ensures) in
+loop-again-2 : tie.Need-loop-again-2 Inv-loop μ-loop
+loop-again-2 c =
+    let i = scans-drifted (c .before .before .before .before .before .before .before .before .before .before .before .before .before .before .before .before .before .before .loop .inv) (c .before .before .before .before .before .before .before .before .before .before .before .before .before .before .before .before .before .drift .ensures) in
     let q = rw (c .before .u .given .1) at (c .before .before .before .ease .ensures) in
     scans-here (scans-slight i (c .before .before .before .before .before .before .before .before .width .ensures) (c .before .before .before .before .before .before .before .take .ensures) (c .before .before .before .before .before .v .given .1) (q .0) (q .1) (q .2))
 
 -- at a packet's end
 
-enum-known-u-2 : tie.Need-enum-known-u-2 Inv-loop μ-loop
-enum-known-u-2 c = search needs
+enum-told-3 : tie.Need-enum-told-3 Inv-loop μ-loop
+enum-told-3 c = search needs
 
 closes-requires : tie.Need-closes-requires Inv-loop μ-loop
 closes-requires c κs = search needs
@@ -165,24 +129,24 @@ closes-requires c κs = search needs
 fresh-requires : tie.Need-fresh-requires Inv-loop μ-loop
 fresh-requires c κs = search needs
 
-add-count-5 : tie.Need-add-count-5 Inv-loop μ-loop
-add-count-5 c =
+add-count-4 : tie.Need-add-count-4 Inv-loop μ-loop
+add-count-4 c =
     let i = scans-drifted (c .before .before .before .before .before .before .before .before .before .before .before .before .before .before .before .before .before .before .before .before .loop .inv) (c .before .before .before .before .before .before .before .before .before .before .before .before .before .before .before .before .before .before .before .drift .ensures) in
     omega (arith, i .few, i .within, i .low)
 
-loop-less-4 : tie.Need-loop-less-4 Inv-loop μ-loop
-loop-less-4 c =
+loop-less-3 : tie.Need-loop-less-3 Inv-loop μ-loop
+loop-less-3 c =
     let i = scans-drifted (c .before .before .before .before .before .before .before .before .before .before .before .before .before .before .before .before .before .before .before .before .loop .inv) (c .before .before .before .before .before .before .before .before .before .before .before .before .before .before .before .before .before .before .before .drift .ensures) in
-    let q = rw (c .before .before .before .before .u2 .given .1) at (c .before .before .before .before .before .before .ease .ensures) in
-    let l = less-slight i (c .before .before .before .before .before .before .before .before .before .before .before .width .ensures) (c .before .before .before .before .before .before .before .before .before .before .take .ensures) (c .before .before .before .before .before .before .before .before .v .given .1) (q .0) (q .1) in
+    let q = rw (c .before .before .before .enum-told3 .given .1) at (c .before .before .before .before .before .ease .ensures) in
+    let l = less-slight i (c .before .before .before .before .before .before .before .before .before .before .width .ensures) (c .before .before .before .before .before .before .before .before .before .take .ensures) (c .before .before .before .before .before .before .before .v .given .1) (q .0) (q .1) in
     rw (c .fresh .ensures) (omega (arith, further (c .before .before .before .before .before .before .before .before .before .before .before .before .before .before .before .before .before .before .before .drift .ensures)))
 
-loop-again-4 : tie.Need-loop-again-4 Inv-loop μ-loop
-loop-again-4 c =
+loop-again-3 : tie.Need-loop-again-3 Inv-loop μ-loop
+loop-again-3 c =
     let i = scans-drifted (c .before .before .before .before .before .before .before .before .before .before .before .before .before .before .before .before .before .before .before .before .loop .inv) (c .before .before .before .before .before .before .before .before .before .before .before .before .before .before .before .before .before .before .before .drift .ensures) in
-    let q = rw (c .before .before .before .before .u2 .given .1) at (c .before .before .before .before .before .before .ease .ensures) in
+    let q = rw (c .before .before .before .enum-told3 .given .1) at (c .before .before .before .before .before .ease .ensures) in
     rw (c .fresh .ensures)
-    (scans-here (scans-closed i (c .before .before .before .before .before .before .before .before .before .before .before .width .ensures) (c .before .before .before .before .before .before .before .before .before .before .take .ensures) (c .before .before .before .before .before .before .before .before .v .given .1) (q .0) (q .1) (q .2) (λ l. sym (c .before .before .closes .ensures l) ∙ c .before .if3 .taken)))
+    (scans-here (scans-closed i (c .before .before .before .before .before .before .before .before .before .before .width .ensures) (c .before .before .before .before .before .before .before .before .before .take .ensures) (c .before .before .before .before .before .before .before .v .given .1) (q .0) (q .1) (q .2) (λ l. sym (c .before .before .closes .ensures l) ∙ c .before .if1 .taken)))
 
 enum-told-4 : tie.Need-enum-told-4 Inv-loop μ-loop
 enum-told-4 c = search needs
@@ -191,7 +155,7 @@ enum-told-4 c = search needs
 
 turn-requires : tie.Need-turn-requires Inv-loop μ-loop
 turn-requires c κs =
-    let i = scans-drifted (c .before .before .before .before .before .before .before .before .before .before .before .before .before .before .before .before .before .loop .inv) (c .before .before .before .before .before .before .before .before .before .before .before .before .before .before .before .before .drift .ensures) in
+    let i = scans-drifted (c .before .before .before .before .before .before .before .before .before .before .before .before .before .before .before .before .before .before .loop .inv) (c .before .before .before .before .before .before .before .before .before .before .before .before .before .before .before .before .before .drift .ensures) in
     record {
       stepping = record { table = i .drives .table; sound = i .drives .sound; low = omega (arith, i .within, i .low); fits = fits i (c .before .before .before .before .before .before .before .before .width .ensures) (c .before .before .before .before .before .before .before .take .ensures) (c .before .before .before .before .before .v .given .1) };
       inside = omega (arith, i .drives .noted, i .within, i .low, i .drives .long);
@@ -205,57 +169,57 @@ refused-requires-2 c κs = search needs
 
 returns-2 : tie.Need-returns-2 Inv-loop μ-loop
 returns-2 c =
-    let i = scans-drifted (c .before .before .before .before .before .before .before .before .before .before .before .before .before .before .before .before .before .before .before .before .before .before .loop .inv) (c .before .before .before .before .before .before .before .before .before .before .before .before .before .before .before .before .before .before .before .before .before .drift .ensures) in
+    let i = scans-drifted (c .before .before .before .before .before .before .before .before .before .before .before .before .before .before .before .before .before .before .before .before .before .before .before .loop .inv) (c .before .before .before .before .before .before .before .before .before .before .before .before .before .before .before .before .before .before .before .before .before .before .drift .ensures) in
     c .refused2 .ensures [] ∙ sym (ap answerOf (ends-broken i (c .before .before .before .before .before .before .before .before .before .before .before .before .before .width .ensures) (c .before .before .before .before .before .before .before .before .before .before .before .before .take .ensures) (c .before .before .before .before .before .before .before .before .before .before .v .given .1) (c .before .before .before .before .turn .ensures) (c .before .before .kind .given .1)))
 
 enum-told-5 : tie.Need-enum-told-5 Inv-loop μ-loop
 enum-told-5 c = search needs
 
-add-t40 : tie.Need-add-t40 Inv-loop μ-loop
-add-t40 c =
-    let i = scans-drifted (c .before .before .before .before .before .before .before .before .before .before .before .before .before .before .before .before .before .before .before .before .before .before .loop .inv) (c .before .before .before .before .before .before .before .before .before .before .before .before .before .before .before .before .before .before .before .before .before .drift .ensures) in
+add-t35 : tie.Need-add-t35 Inv-loop μ-loop
+add-t35 c =
+    let i = scans-drifted (c .before .before .before .before .before .before .before .before .before .before .before .before .before .before .before .before .before .before .before .before .before .before .before .loop .inv) (c .before .before .before .before .before .before .before .before .before .before .before .before .before .before .before .before .before .before .before .before .before .before .drift .ensures) in
     omega (arith, i .few, i .within, i .low)
 
 returns-3 : tie.Need-returns-3 Inv-loop μ-loop
 returns-3 c =
-    let i = scans-drifted (c .before .before .before .before .before .before .before .before .before .before .before .before .before .before .before .before .before .before .before .before .before .before .loop .inv) (c .before .before .before .before .before .before .before .before .before .before .before .before .before .before .before .before .before .before .before .before .before .drift .ensures) in
-    ends-well i (c .before .before .before .before .before .before .before .before .before .before .before .before .before .width .ensures) (c .before .before .before .before .before .before .before .before .before .before .before .before .take .ensures) (c .before .before .before .before .before .before .before .before .before .before .v .given .1) (c .before .before .before .before .turn .ensures) (c .before .before .enum-told5 .given .1) (c .if4 .taken)
+    let i = scans-drifted (c .before .before .before .before .before .before .before .before .before .before .before .before .before .before .before .before .before .before .before .before .before .before .before .loop .inv) (c .before .before .before .before .before .before .before .before .before .before .before .before .before .before .before .before .before .before .before .before .before .before .drift .ensures) in
+    ends-well i (c .before .before .before .before .before .before .before .before .before .before .before .before .before .width .ensures) (c .before .before .before .before .before .before .before .before .before .before .before .before .take .ensures) (c .before .before .before .before .before .before .before .before .before .before .v .given .1) (c .before .before .before .before .turn .ensures) (c .before .before .enum-told5 .given .1) (c .if2 .taken)
 
 refused-requires-3 : tie.Need-refused-requires-3 Inv-loop μ-loop
 refused-requires-3 c κs = search needs
 
 returns-4 : tie.Need-returns-4 Inv-loop μ-loop
 returns-4 c =
-    let i = scans-drifted (c .before .before .before .before .before .before .before .before .before .before .before .before .before .before .before .before .before .before .before .before .before .before .before .loop .inv) (c .before .before .before .before .before .before .before .before .before .before .before .before .before .before .before .before .before .before .before .before .before .before .drift .ensures) in
+    let i = scans-drifted (c .before .before .before .before .before .before .before .before .before .before .before .before .before .before .before .before .before .before .before .before .before .before .before .before .loop .inv) (c .before .before .before .before .before .before .before .before .before .before .before .before .before .before .before .before .before .before .before .before .before .before .before .drift .ensures) in
     c .refused3 .ensures []
-    ∙ sym (ap answerOf (ends-trailing i (c .before .before .before .before .before .before .before .before .before .before .before .before .before .before .width .ensures) (c .before .before .before .before .before .before .before .before .before .before .before .before .before .take .ensures) (c .before .before .before .before .before .before .before .before .before .before .before .v .given .1) (c .before .before .before .before .before .turn .ensures) (c .before .before .before .enum-told5 .given .1) (c .before .if4 .left)))
+    ∙ sym (ap answerOf (ends-trailing i (c .before .before .before .before .before .before .before .before .before .before .before .before .before .before .width .ensures) (c .before .before .before .before .before .before .before .before .before .before .before .before .before .take .ensures) (c .before .before .before .before .before .before .before .before .before .before .before .v .given .1) (c .before .before .before .before .before .turn .ensures) (c .before .before .before .enum-told5 .given .1) (c .before .if2 .left)))
 
-enum-known-after-3 : tie.Need-enum-known-after-3 Inv-loop μ-loop
-enum-known-after-3 c = search needs
+enum-known-after-2 : tie.Need-enum-known-after-2 Inv-loop μ-loop
+enum-known-after-2 c = search needs
 
 keep-requires : tie.Need-keep-requires Inv-loop μ-loop
 keep-requires c κs =
-    let i = scans-drifted (c .before .before .before .before .before .before .before .before .before .before .before .before .before .before .before .before .before .before .before .before .before .before .loop .inv) (c .before .before .before .before .before .before .before .before .before .before .before .before .before .before .before .before .before .before .before .before .before .drift .ensures) in
+    let i = scans-drifted (c .before .before .before .before .before .before .before .before .before .before .before .before .before .before .before .before .before .before .before .before .before .before .before .loop .inv) (c .before .before .before .before .before .before .before .before .before .before .before .before .before .before .before .before .before .before .before .before .before .before .drift .ensures) in
     record {
       stepping = record { table = i .drives .table; sound = i .drives .sound; low = omega (arith, i .within, i .low); fits = fits i (c .before .before .before .before .before .before .before .before .before .before .before .before .before .width .ensures) (c .before .before .before .before .before .before .before .before .before .before .before .before .take .ensures) (c .before .before .before .before .before .before .before .before .before .before .v .given .1) };
       inside = omega (arith, i .drives .noted, i .within, i .low, i .drives .long);
     }
 
-add-count-6 : tie.Need-add-count-6 Inv-loop μ-loop
-add-count-6 c =
-    let i = scans-drifted (c .before .before .before .before .before .before .before .before .before .before .before .before .before .before .before .before .before .before .before .before .before .before .before .loop .inv) (c .before .before .before .before .before .before .before .before .before .before .before .before .before .before .before .before .before .before .before .before .before .before .drift .ensures) in
+add-count-5 : tie.Need-add-count-5 Inv-loop μ-loop
+add-count-5 c =
+    let i = scans-drifted (c .before .before .before .before .before .before .before .before .before .before .before .before .before .before .before .before .before .before .before .before .before .before .before .before .loop .inv) (c .before .before .before .before .before .before .before .before .before .before .before .before .before .before .before .before .before .before .before .before .before .before .before .drift .ensures) in
     omega (arith, i .few, i .within, i .low)
 
-loop-less-5 : tie.Need-loop-less-5 Inv-loop μ-loop
-loop-less-5 c =
-    let i = scans-drifted (c .before .before .before .before .before .before .before .before .before .before .before .before .before .before .before .before .before .before .before .before .before .before .before .loop .inv) (c .before .before .before .before .before .before .before .before .before .before .before .before .before .before .before .before .before .before .before .before .before .before .drift .ensures) in
-    let l = less i (c .before .before .before .before .before .before .before .before .before .before .before .before .before .before .width .ensures) (c .before .before .before .before .before .before .before .before .before .before .before .before .before .take .ensures) (c .before .before .before .before .before .before .before .before .before .before .before .v .given .1) (c .before .before .before .before .before .turn .ensures) (c .before .before .before .after3 .given .1) in
-    omega (arith, further (c .before .before .before .before .before .before .before .before .before .before .before .before .before .before .before .before .before .before .before .before .before .before .drift .ensures))
+loop-less-4 : tie.Need-loop-less-4 Inv-loop μ-loop
+loop-less-4 c =
+    let i = scans-drifted (c .before .before .before .before .before .before .before .before .before .before .before .before .before .before .before .before .before .before .before .before .before .before .before .before .loop .inv) (c .before .before .before .before .before .before .before .before .before .before .before .before .before .before .before .before .before .before .before .before .before .before .before .drift .ensures) in
+    let l = less i (c .before .before .before .before .before .before .before .before .before .before .before .before .before .before .width .ensures) (c .before .before .before .before .before .before .before .before .before .before .before .before .before .take .ensures) (c .before .before .before .before .before .before .before .before .before .before .before .v .given .1) (c .before .before .before .before .before .turn .ensures) (c .before .before .before .after2 .given .1) in
+    omega (arith, further (c .before .before .before .before .before .before .before .before .before .before .before .before .before .before .before .before .before .before .before .before .before .before .before .drift .ensures))
 
-loop-again-5 : tie.Need-loop-again-5 Inv-loop μ-loop
-loop-again-5 c =
-    let i = scans-drifted (c .before .before .before .before .before .before .before .before .before .before .before .before .before .before .before .before .before .before .before .before .before .before .before .loop .inv) (c .before .before .before .before .before .before .before .before .before .before .before .before .before .before .before .before .before .before .before .before .before .before .drift .ensures) in
-    scans-here (scans-on i (c .before .before .before .before .before .before .before .before .before .before .before .before .before .before .width .ensures) (c .before .before .before .before .before .before .before .before .before .before .before .before .before .take .ensures) (c .before .before .before .before .before .before .before .before .before .before .before .v .given .1) (c .before .before .before .before .before .turn .ensures) (c .before .before .before .after3 .given .1) (c .keep .ensures))
+loop-again-4 : tie.Need-loop-again-4 Inv-loop μ-loop
+loop-again-4 c =
+    let i = scans-drifted (c .before .before .before .before .before .before .before .before .before .before .before .before .before .before .before .before .before .before .before .before .before .before .before .before .loop .inv) (c .before .before .before .before .before .before .before .before .before .before .before .before .before .before .before .before .before .before .before .before .before .before .before .drift .ensures) in
+    scans-here (scans-on i (c .before .before .before .before .before .before .before .before .before .before .before .before .before .before .width .ensures) (c .before .before .before .before .before .before .before .before .before .before .before .before .before .take .ensures) (c .before .before .before .before .before .before .before .before .before .before .before .v .given .1) (c .before .before .before .before .before .turn .ensures) (c .before .before .before .after2 .given .1) (c .keep .ensures))
 
 pub walk-spec : {M : Type 1} → statement M
 walk-spec =
@@ -266,49 +230,42 @@ walk-spec =
     loop-holds
     drift-requires
     add-count
-    head-requires
+    leading-requires
     enum-known-after
     note-requires
     add-count-2
     loop-less
     loop-again
     enum-told
-    act-requires
-    inner-requires
-    enum-known-after-2
-    add-count-3
-    loop-less-2
-    loop-again-2
-    enum-told-2
     width-requires
     take-requires
     enum-known-v
-    enum-told-3
+    enum-told-2
     refused-requires
     returns
     ease-requires
     enum-known-u
+    add-count-3
+    loop-less-2
+    loop-again-2
+    enum-told-3
+    closes-requires
+    fresh-requires
     add-count-4
     loop-less-3
     loop-again-3
-    enum-known-u-2
-    closes-requires
-    fresh-requires
-    add-count-5
-    loop-less-4
-    loop-again-4
     enum-told-4
     turn-requires
     enum-known-kind
     refused-requires-2
     returns-2
     enum-told-5
-    add-t40
+    add-t35
     returns-3
     refused-requires-3
     returns-4
-    enum-known-after-3
+    enum-known-after-2
     keep-requires
-    add-count-6
-    loop-less-5
-    loop-again-5)
+    add-count-5
+    loop-less-4
+    loop-again-4)
