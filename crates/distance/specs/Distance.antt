@@ -40,7 +40,7 @@ wholeSteps step d = wholeIf (eqb (d % step) 0 && ltb (d / step) (2 ^ 32)) (d / s
 abbrev pub inSteps : Scale → ℕ → Told
 inSteps q d = wholeSteps (stepOf q) d
 
--- whether what is told is whole steps that fit w bits
+-- whether what is told is whole steps, of which 32 bits hold the number, that fit w bits
 abbrev pub fitting : ℕ → Told → Bool
 fitting w (told.Whole n) = ltb (n .0) (2 ^ w)
 fitting w told.Not = false

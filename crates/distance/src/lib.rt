@@ -69,7 +69,7 @@ impl Steps {
         }
     }
 
-    // Whether these steps of a packet's scale are a whole number of metres that fits w bits.
+    // Whether these steps of a packet's scale are a whole number of metres that fits w bits, and 32.
     pub fn whole_metres(self, q: Scale, w: usize) -> bool
         ensures { λ r. ⌜ r ≡ fitting w (inSteps Metres (inDecimetres q (self .0))) ⌝ }
     {

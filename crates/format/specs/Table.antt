@@ -1,5 +1,5 @@
 -- The packets as rows of a table, which the machine of the code goes by. The rows are made here from the items, and nothing of them has
--- to be believed: proofs/Table.antt has the checker compute that they say what the items say. Definitions alone.
+-- to be believed: proofs/Rows.antt has the checker compute that they say what the items say. Definitions alone.
 use mathlib.Core.Bool.{cond}
 use mathlib.Core.List.{List, [], _∷_, _++_, map}
 use Prim.Native.Nat.{ℕ, zero, suc, _+_, _-_, _*_, _^_}

@@ -1,9 +1,9 @@
 -- What the loop goes by that goes past fields unread. Assumes nothing.
-use mathlib.Core.Bool.{Bool, true, false, cond, not, _&&_, _||_}
+use mathlib.Core.Bool.{Bool, true, false, cond, _&&_, _||_}
 use mathlib.Core.Path.{_≡_, refl, sym, ap, ap₂, _∙_, subst}
 use Prim.Native.Nat.{ℕ, _+_, _-_, _≤_, _<_}
 use native.Mathlib.Omega.{arith}
-use borrow.Author.Tests.{eq-eqb, ne-eqb, eqb-true, eqb-false, ltb-true, not-true}
+use borrow.Author.Tests.{eq-eqb, ne-eqb, eqb-true, ltb-true}
 use lib.Dec.{eqb, ltb}
 use Rattle.bits.specs.Take.{skipAt}
 use Rattle.bits.specs.declared.Cursor.{Cursor}
@@ -21,16 +21,17 @@ use Rattle.states.proofs.Idling.{idle-ahead}
 
 -- what need not be read, by whether the telegram is told again
 -- what the test of a field says: the two cases of a telegram that is told again and of one that is not
-unread-free : (told : Bool) (k : ℕ) → cond told (eqb (codeOf (fieldAt k .sense)) 0 || ltb 2 (codeOf (fieldAt k .sense)) && not (eqb (codeOf (fieldAt k .sense)) 11)) (ltb (codeOf (fieldAt k .sense)) 3) ≡ true
+unread-free : (told : Bool) (k : ℕ) → cond told (eqb (codeOf (fieldAt k .sense)) 0 || ltb 2 (codeOf (fieldAt k .sense)) && ltb (codeOf (fieldAt k .sense)) 11) (ltb (codeOf (fieldAt k .sense)) 3) ≡ true
     → Unread told k
 unread-free true k e = told-free (codeOf (fieldAt k .sense)) (eqb (codeOf (fieldAt k .sense)) 0) refl e
   where
-    told-free : (c : ℕ) (b : Bool) → eqb c 0 ≡ b → (b || ltb 2 c && not (eqb c 11)) ≡ true → (c ≡ 11 → ⊥) × (c ≡ 1 → ⊥) × (c ≡ 2 → ⊥)
+    told-free : (c : ℕ) (b : Bool) → eqb c 0 ≡ b → (b || ltb 2 c && ltb c 11) ≡ true → (c ≡ 11 → ⊥) × (c ≡ 1 → ⊥) × (c ≡ 2 → ⊥)
     told-free c true z h = let x = eqb-true c 0 z in (λ y. omega arith, λ y. omega arith, λ y. omega arith)
-    told-free c false z h =
-        let d = and-two (ltb 2 c) (not (eqb c 11)) h in
+    told-free c false w h =
+        let d = and-two (ltb 2 c) (ltb c 11) h in
         let x = ltb-true 2 c (d .0) in
-        (eqb-false c 11 (not-true _ (d .1)), λ y. omega arith, λ y. omega arith)
+        let z = ltb-true c 11 (d .1) in
+        (λ y. omega arith, λ y. omega arith, λ y. omega arith)
 unread-free false k e = ltb-true (codeOf (fieldAt k .sense)) 3 e
 
 pub unread-so : (told : Bool) (k a c : ℕ) → a ≡ act k → c ≡ codeOf (fieldAt k .sense) → unread told a c ≡ true → (act k ≡ 2) × Unread told k

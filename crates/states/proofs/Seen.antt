@@ -1,4 +1,4 @@
--- Packets that came before, kept as 4 times the NID_PACKET and the Q_DIR: which of them a packet collides with. Assumes nothing.
+-- Packets that came before, kept as 4 times the NID_PACKET plus the Q_DIR: which of them a packet collides with. Assumes nothing.
 use mathlib.Core.Path.{_≡_, refl}
 use mathlib.Core.Bool.{Bool, true, false, not, _&&_, _||_, or-true}
 use mathlib.Core.List.{List, [], _∷_}

@@ -1,5 +1,5 @@
--- The header taken at once, whose first 25 bits hold all of it that a rule reads; and a packet's head, whose NID_PACKET, Q_DIR and L_PACKET
--- are 23. Definitions alone.
+-- The header taken at once, whose first 25 bits hold all of it that a rule reads; a packet's head, whose NID_PACKET, Q_DIR and L_PACKET are
+-- 23; and that of a CTCS packet, whose NID_XUSER, Q_DIR and L_PACKET are 24. Definitions alone.
 use mathlib.Core.Path.{_≡_}
 use mathlib.Core.Bool.{false, not, _&&_}
 use mathlib.Core.List.{List}

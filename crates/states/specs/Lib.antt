@@ -1,4 +1,4 @@
--- What the reader promises; and what the machine's state stands for, and each of its functions promises.
+-- What check, read, write and normalise answer; and what the machine's state stands for, and each of its functions promises.
 pub mod Reader
 pub mod Machine
 pub mod Seen

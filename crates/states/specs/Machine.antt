@@ -111,7 +111,7 @@ Unread false k = codeOf (fieldAt k .sense) < 3
 
 -- the same by what stands in the row and by the field's code, for a field that steers nothing
 abbrev pub unread : Bool → ℕ → ℕ → Bool
-unread told a c = eqb a 2 && cond told (eqb c 0 || ltb 2 c && not (eqb c 11)) (ltb c 3)
+unread told a c = eqb a 2 && cond told (eqb c 0 || ltb 2 c && ltb c 11) (ltb c 3)
 
 -- from t at a position, so many such fields up to bit n lead to a todo at another position
 pub data Drifted (n : ℕ) (told : Bool) (t : Todo) (at : ℕ) : Todo → ℕ → ℕ → Type 0 where

@@ -1,4 +1,4 @@
-// The packets that came before, each kept as 4 times its NID_PACKET and its Q_DIR.
+// The packets that came before, each kept as 4 times its NID_PACKET plus its Q_DIR.
 ghost use mathlib.Core.Path.{_≡_};
 ghost use mathlib.Core.Bool.{not, _&&_};
 ghost use Prim.Native.Nat.{_/_, _%_};

@@ -33,7 +33,7 @@ pub enum Ahead {
     Mark,
 }
 
-// Whether the field that is due belongs to the header, to a packet or to the CTCS packet inside one.
+// Whether the field that is due belongs to the header, to a packet or, behind its NID_XUSER, to the CTCS packet inside one.
 pub enum Level {
     Header,
     Packet,

@@ -129,7 +129,7 @@ fn since(at: usize, from: usize) -> u64
 
 // ---- a refusal
 
-// The refusal at the field that is due, which holds v.
+// The refusal at the field that is due, which holds v; 0 where there is no value.
 pub fn refused(kind: Kind, s: State, v: u64) -> Answer
     ensures { λ r. ⌜ ((l : List Earlier) → r ≡ Refused (record { kind = kind; place = packetPlace kind (view l s) v })) ⌝ }
 {

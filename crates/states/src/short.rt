@@ -23,7 +23,7 @@ pub fn unread(a: u32, c: u32, told: bool) -> bool
         if c <= TEXT {
             return false;
         }
-        return c != SCALE;
+        return c < SCALE;
     }
     c < SIZE
 }

@@ -64,7 +64,7 @@ fn directing(rows: &[u32; 213], s: State) -> bool
 }
 
 // Goes past fields unread, through the cursor, up to one that has to be read, that is the last of its packet or of its list, or that would end
-// past bit n. What follows a field is told apart here in place, so that the compiler can guess it.
+// past bit n. What follows a field is told apart here in place, so that the processor can guess it.
 pub(crate) fn drift(rows: &[u32; 213], n: usize, told: bool, from: Todo, start: Cursor) -> Reach
     requires { ⌜ (now rows ≡ words) × Tidy from ⌝ }
     ensures { λ r. ⌜ Drifted n told from (start .at) (r .todo) (r .cursor .at) (r .fields) ⌝ }
@@ -104,7 +104,7 @@ pub(crate) fn drift(rows: &[u32; 213], n: usize, told: bool, from: Todo, start: 
     }
 }
 
-// What is to be sent after a value that keeps its rule and of which nothing is kept, if that is a field or the packet's end.
+// What is to be sent after a value that keeps its rule and of which nothing is kept, if one turn finds a field or the packet's end.
 pub(crate) fn ease(rows: &[u32; 213], t: Todo, v: u64) -> Easy
     requires { ⌜ (now rows ≡ words) × Tidy t ⌝ }
     ensures { λ r. ⌜ Eased t v r ⌝ }

@@ -1,4 +1,4 @@
-// The packets that came before, each kept as 4 times its NID_PACKET and its Q_DIR, and whether a packet collides with one of them.
+// The packets that came before, each kept as 4 times its NID_PACKET plus its Q_DIR, and whether a packet collides with one of them.
 ghost use Rattle.states.specs.Seen.{Repeating, Repeated, Keeping, Held};
 use states::State;
 use states::collides;

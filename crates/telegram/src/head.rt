@@ -1,5 +1,5 @@
 // What stands in front, taken as one field: the header's first 25 bits, with all of it that a rule reads; a packet's NID_PACKET, Q_DIR and
-// L_PACKET, which are 23; and those of a CTCS packet, which are 24.
+// L_PACKET, which are 23; and a CTCS packet's NID_XUSER, Q_DIR and L_PACKET, which are 24.
 ghost use mathlib.Core.Path.{_≡_};
 ghost use Prim.Native.Nat.{_<_};
 ghost use Rattle.format.specs.Table.{words};
@@ -19,7 +19,7 @@ use states::codes::END;
 use states::codes::NEST;
 use states::collides;
 
-// The header. Its first three fields are 1, 16 and 0, which is 288 in nine bits.
+// The header, if it keeps every rule. Its first three fields are 1, 16 and 0, which is 288 in nine bits.
 pub(crate) fn header(s: &[u8], n: usize) -> Begun
     ensures { λ r. ⌜ Started (now (s .entry)) n r ⌝ }
 {
