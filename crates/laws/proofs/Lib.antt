@@ -20,3 +20,4 @@ pub mod LeftOut
 pub mod Demand3
 pub mod Metres
 pub mod Bounds
+pub mod Listed
