@@ -5,6 +5,7 @@ pub mod draft;
 mod maker;
 pub mod packets;
 pub mod random;
+pub mod sheets;
 pub mod sound;
 pub mod values;
 

@@ -47,7 +47,7 @@ fn signals<F: Fields>(fields: &mut F) -> Result<(), Rule> {
 /// CTCS-2.
 #[inline(always)]
 fn speed_restrictions<F: Fields>(fields: &mut F) -> Result<(), Rule> {
-    let [.., more] = fields.take(&[Q_SCALE, L_TSR_AREA, D_TSR, L_TSR, Q_FRONT, V_TSR, N_ITER])?;
+    let [.., more] = fields.take(&[Q_SCALE, L_TSRarea, D_TSR, L_TSR, Q_FRONT, V_TSR, N_ITER])?;
     fields.repeat(more, &[D_TSR, L_TSR, Q_FRONT, V_TSR])
 }
 

@@ -1,4 +1,4 @@
-//! The fields of the tables: width, allowed values, and what they mean to the normal form.
+//! The fields of the tables: name, width, allowed values, and what they mean to the normal form.
 
 use crate::refusal::Rule;
 
@@ -23,6 +23,8 @@ pub(crate) enum Role {
 /// One field. All are constants, so that the tests below vanish where they cannot fail.
 #[derive(Clone, Copy)]
 pub(crate) struct Field {
+    /// The variable, as the tables and the data sheets spell it.
+    pub name: &'static str,
     pub width: usize,
     pub role: Role,
     /// The rule that is broken by a value that is not allowed.
@@ -44,6 +46,10 @@ impl Field {
     pub fn allows_anything(&self) -> bool {
         matches!(self.allowed, Allowed::Anything)
     }
+
+    pub fn holds_radio_number(&self) -> bool {
+        matches!(self.allowed, Allowed::RadioNumber)
+    }
 }
 
 /// Digits 0 to 9 from the left, then only F: the trailing Fs are shifted out, and what is left
@@ -57,6 +63,8 @@ fn is_radio_number(value: u64) -> bool {
 
 const fn free(width: usize) -> Field {
     Field {
+        // The table below puts in the name.
+        name: "",
         width,
         role: Role::Plain,
         broken: Rule::Value,
@@ -89,97 +97,125 @@ const fn distance(width: usize) -> Field {
     }
 }
 
-// Header.
-pub(crate) const Q_UPDOWN: Field = header(1, 1, 1);
-pub(crate) const M_VERSION: Field = header(7, 16, 16);
-pub(crate) const Q_MEDIA: Field = header(1, 0, 0);
-pub(crate) const N_PIG: Field = free(3);
-pub(crate) const N_TOTAL: Field = free(3);
-pub(crate) const M_DUP: Field = header(2, 0, 2);
-pub(crate) const M_MCOUNT: Field = free(8);
-pub(crate) const Q_LINK: Field = free(1);
+/// Makes a constant of each field and a list of them all. Every name is spelled here and nowhere
+/// else, which is why one of the constants is not in capitals throughout.
+macro_rules! table {
+    ($($name:ident = $field:expr;)*) => {
+        $(
+            #[allow(non_upper_case_globals)]
+            pub(crate) const $name: Field = Field {
+                name: stringify!($name),
+                ..$field
+            };
+        )*
 
-// Heads of packets, and lists.
-pub(crate) const NID_PACKET: Field = free(8);
-pub(crate) const NID_XUSER: Field = free(9);
-pub(crate) const Q_DIR: Field = up_to(2, 2);
-pub(crate) const L_PACKET: Field = free(13);
-pub(crate) const Q_SCALE: Field = Field {
-    role: Role::Scale,
-    ..up_to(2, 2)
-};
-pub(crate) const N_ITER: Field = free(5);
+        /// All fields, each once.
+        pub(crate) static ALL: &[Field] = &[$($name),*];
+    };
+}
 
-// Distances: all but one are 15 bits wide and alike.
-pub(crate) const D_LINK: Field = distance(15);
-pub(crate) const D_GRADIENT: Field = distance(15);
-pub(crate) const D_STATIC: Field = distance(15);
-pub(crate) const D_LEVELTR: Field = distance(15);
-pub(crate) const L_ACKLEVELTR: Field = distance(15);
-pub(crate) const D_TRACKINIT: Field = distance(15);
-pub(crate) const D_TRACKCOND: Field = distance(15);
-pub(crate) const L_TRACKCOND: Field = distance(15);
-pub(crate) const D_TEXTDISPLAY: Field = distance(15);
-pub(crate) const L_TEXTDISPLAY: Field = Field {
-    role: Role::TextLength,
-    ..free(15)
-};
-pub(crate) const D_POSOFF: Field = distance(15);
-pub(crate) const M_POSITION: Field = distance(20);
-pub(crate) const D_RBCTR: Field = distance(15);
-pub(crate) const D_SIGNAL: Field = distance(15);
-pub(crate) const L_SECTION: Field = distance(15);
-pub(crate) const L_TSR_AREA: Field = distance(15);
-pub(crate) const D_TSR: Field = distance(15);
-pub(crate) const L_TSR: Field = distance(15);
-pub(crate) const D_STARTREVERSE: Field = distance(15);
-pub(crate) const L_REVERSEAREA: Field = distance(15);
-pub(crate) const D_TURNOUT: Field = distance(15);
+table! {
+    // Header.
+    Q_UPDOWN = header(1, 1, 1);
+    M_VERSION = header(7, 16, 16);
+    Q_MEDIA = header(1, 0, 0);
+    N_PIG = free(3);
+    N_TOTAL = free(3);
+    M_DUP = header(2, 0, 2);
+    M_MCOUNT = free(8);
+    Q_LINK = free(1);
 
-// Everything else, in order of first use.
-pub(crate) const Q_NEWCOUNTRY: Field = free(1);
-pub(crate) const NID_C: Field = free(10);
-pub(crate) const NID_BG: Field = free(14);
-pub(crate) const Q_LINKORIENTATION: Field = free(1);
-pub(crate) const Q_LINKREACTION: Field = up_to(2, 2);
-pub(crate) const Q_LOCACC: Field = free(6);
-pub(crate) const Q_GDIR: Field = free(1);
-pub(crate) const G_A: Field = free(8);
-pub(crate) const V_STATIC: Field = free(7);
-pub(crate) const Q_FRONT: Field = free(1);
-pub(crate) const NC_DIFF: Field = up_to(4, 2);
-pub(crate) const V_DIFF: Field = free(7);
-pub(crate) const M_LEVELTR: Field = up_to(3, 4);
-pub(crate) const NID_STM: Field = between(8, 1, 3);
-pub(crate) const Q_RBC: Field = free(1);
-pub(crate) const NID_RBC: Field = free(14);
-pub(crate) const NID_RADIO: Field = Field {
-    allowed: Allowed::RadioNumber,
-    ..free(64)
-};
-pub(crate) const Q_SLEEPSESSION: Field = free(1);
-pub(crate) const Q_TRACKINIT: Field = free(1);
-pub(crate) const M_TRACKCOND: Field = up_to(4, 9);
-pub(crate) const Q_TEXTCLASS: Field = up_to(2, 1);
-pub(crate) const Q_TEXTDISPLAY: Field = free(1);
-pub(crate) const M_MODETEXTDISPLAY: Field = free(4);
-pub(crate) const M_LEVELTEXTDISPLAY: Field = up_to(3, 5);
-pub(crate) const T_TEXTDISPLAY: Field = free(10);
-pub(crate) const Q_TEXTCONFIRM: Field = up_to(2, 2);
-pub(crate) const L_TEXT: Field = free(8);
-pub(crate) const X_TEXT: Field = free(8);
-pub(crate) const Q_MPOSITION: Field = free(1);
-pub(crate) const Q_ASPECT: Field = free(1);
-pub(crate) const Q_SRSTOP: Field = free(1);
-pub(crate) const NID_SIGNAL: Field = up_to(4, 7);
-pub(crate) const NID_FREQUENCY: Field = up_to(5, 12);
-pub(crate) const V_TSR: Field = free(7);
-pub(crate) const V_TURNOUT: Field = free(7);
-pub(crate) const Q_STOP: Field = up_to(1, 0);
+    // Heads of packets, and lists.
+    NID_PACKET = free(8);
+    NID_XUSER = free(9);
+    Q_DIR = up_to(2, 2);
+    L_PACKET = free(13);
+    Q_SCALE = Field {
+        role: Role::Scale,
+        ..up_to(2, 2)
+    };
+    N_ITER = free(5);
+
+    // Distances: all but one are 15 bits wide and alike.
+    D_LINK = distance(15);
+    D_GRADIENT = distance(15);
+    D_STATIC = distance(15);
+    D_LEVELTR = distance(15);
+    L_ACKLEVELTR = distance(15);
+    D_TRACKINIT = distance(15);
+    D_TRACKCOND = distance(15);
+    L_TRACKCOND = distance(15);
+    D_TEXTDISPLAY = distance(15);
+    L_TEXTDISPLAY = Field {
+        role: Role::TextLength,
+        ..free(15)
+    };
+    D_POSOFF = distance(15);
+    M_POSITION = distance(20);
+    D_RBCTR = distance(15);
+    D_SIGNAL = distance(15);
+    L_SECTION = distance(15);
+    L_TSRarea = distance(15);
+    D_TSR = distance(15);
+    L_TSR = distance(15);
+    D_STARTREVERSE = distance(15);
+    L_REVERSEAREA = distance(15);
+    D_TURNOUT = distance(15);
+
+    // Everything else, in order of first use.
+    Q_NEWCOUNTRY = free(1);
+    NID_C = free(10);
+    NID_BG = free(14);
+    Q_LINKORIENTATION = free(1);
+    Q_LINKREACTION = up_to(2, 2);
+    Q_LOCACC = free(6);
+    Q_GDIR = free(1);
+    G_A = free(8);
+    V_STATIC = free(7);
+    Q_FRONT = free(1);
+    NC_DIFF = up_to(4, 2);
+    V_DIFF = free(7);
+    M_LEVELTR = up_to(3, 4);
+    NID_STM = between(8, 1, 3);
+    Q_RBC = free(1);
+    NID_RBC = free(14);
+    NID_RADIO = Field {
+        allowed: Allowed::RadioNumber,
+        ..free(64)
+    };
+    Q_SLEEPSESSION = free(1);
+    Q_TRACKINIT = free(1);
+    M_TRACKCOND = up_to(4, 9);
+    Q_TEXTCLASS = up_to(2, 1);
+    Q_TEXTDISPLAY = free(1);
+    M_MODETEXTDISPLAY = free(4);
+    M_LEVELTEXTDISPLAY = up_to(3, 5);
+    T_TEXTDISPLAY = free(10);
+    Q_TEXTCONFIRM = up_to(2, 2);
+    L_TEXT = free(8);
+    X_TEXT = free(8);
+    Q_MPOSITION = free(1);
+    Q_ASPECT = free(1);
+    Q_SRSTOP = free(1);
+    NID_SIGNAL = up_to(4, 7);
+    NID_FREQUENCY = up_to(5, 12);
+    V_TSR = free(7);
+    V_TURNOUT = free(7);
+    Q_STOP = up_to(1, 0);
+
+    // What a data sheet calls the NID_PACKET that is the end mark.
+    END = free(8);
+}
 
 #[cfg(test)]
 mod tests {
-    use super::NID_RADIO;
+    use super::{ALL, NID_RADIO};
+
+    #[test]
+    fn the_table_has_71_variables_and_the_end_mark() {
+        assert_eq!(ALL.len(), 71 + 1);
+        assert!(ALL.iter().all(|field| (1..=64).contains(&field.width)));
+    }
 
     fn by_places(value: u64) -> bool {
         let places: Vec<u64> = (0..16).map(|i| value >> (60 - 4 * i) & 15).collect();

@@ -12,6 +12,7 @@ mod etcs;
 mod field;
 mod normal;
 mod refusal;
+pub mod sheet;
 mod source;
 mod telegram;
 mod values;

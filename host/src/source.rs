@@ -47,3 +47,35 @@ pub(crate) fn list<F: Fields>(
         left = Some(more - 1);
     }
 }
+
+/// A source that keeps what has been taken from it.
+pub(crate) struct Noted<F> {
+    pub source: F,
+    /// The fields of all runs that kept their own rules, with their values.
+    pub taken: Vec<(Field, u64)>,
+}
+
+impl<F: Fields> Noted<F> {
+    pub fn new(source: F) -> Self {
+        Noted {
+            source,
+            taken: Vec::new(),
+        }
+    }
+}
+
+impl<F: Fields> Fields for Noted<F> {
+    fn position(&self) -> usize {
+        self.source.position()
+    }
+
+    fn is_exhausted(&self) -> bool {
+        self.source.is_exhausted()
+    }
+
+    fn take<const K: usize>(&mut self, run: &'static [Field; K]) -> Result<[u64; K], Rule> {
+        let values = self.source.take(run)?;
+        self.taken.extend(run.iter().copied().zip(values));
+        Ok(values)
+    }
+}

@@ -5,7 +5,7 @@ use crate::refusal::{Refusal, Rule};
 use crate::source::Fields;
 use crate::{ctcs, etcs};
 
-const END_MARK: u64 = 255;
+pub(crate) const END_MARK: u64 = 255;
 
 /// The kinds of packets; the discriminants number them for the test of repeats.
 #[derive(Clone, Copy, PartialEq, Eq)]

@@ -3,7 +3,7 @@
 //! `vectors in SEED COUNT` prints questions: `r BITS` to read, `n BITS` to normalise and
 //! `w V V ...` to write. `vectors out` answers those on standard input, a line each.
 
-use plain::corpus::draft::{pack, unpack};
+use plain::corpus::draft::{digits, pack, parse, unpack};
 use plain::corpus::values::values;
 use plain::corpus::Corpus;
 use plain::{normalise, read, worked, write, Refusal, MAX_BYTES, MAX_VALUES};
@@ -82,13 +82,13 @@ fn answer(line: &str) -> Option<Result<String, Refusal>> {
     let (kind, rest) = line.split_once(' ').unwrap_or((line, ""));
     match kind {
         "r" => {
-            let bits = bits(rest)?;
+            let bits = parse(rest.as_bytes())?;
             let mut out = [0; MAX_VALUES];
             let count = read(&pack(&bits), bits.len() as u64, &mut out);
             Some(count.map(|count| format!("{count}{}", decimals(&out[..count]))))
         }
         "n" => {
-            let bits = bits(rest)?;
+            let bits = parse(rest.as_bytes())?;
             let mut out = [0; MAX_BYTES];
             let done = normalise(&pack(&bits), bits.len() as u64, &mut out);
             Some(done.map(|()| digits(&unpack(&out, bits.len()))))
@@ -102,15 +102,6 @@ fn answer(line: &str) -> Option<Result<String, Refusal>> {
     }
 }
 
-fn bits(text: &str) -> Option<Vec<bool>> {
-    let bit = |character| match character {
-        '0' => Some(false),
-        '1' => Some(true),
-        _ => None,
-    };
-    text.chars().map(bit).collect()
-}
-
 fn numbers(text: &str) -> Option<Vec<u64>> {
     // `parse` alone would let a plus sign pass.
     let plain = text
@@ -121,12 +112,6 @@ fn numbers(text: &str) -> Option<Vec<u64>> {
         .map(|word| word.parse().ok())
         .collect::<Option<_>>()
         .filter(|_| plain)
-}
-
-fn digits(bits: &[bool]) -> String {
-    bits.iter()
-        .map(|&bit| if bit { '1' } else { '0' })
-        .collect()
 }
 
 /// Each value with a space before it.

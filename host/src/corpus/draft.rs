@@ -122,3 +122,20 @@ pub fn unpack(bytes: &[u8], n: usize) -> Vec<bool> {
         .flat_map(|byte| (0..8).rev().map(move |bit| byte >> bit & 1 == 1));
     bits.take(n).collect()
 }
+
+/// The bits that a line of the characters 0 and 1 says, if it has no others.
+pub fn parse(line: &[u8]) -> Option<Vec<bool>> {
+    let bit = |character: &u8| match character {
+        b'0' => Some(false),
+        b'1' => Some(true),
+        _ => None,
+    };
+    line.iter().map(bit).collect()
+}
+
+/// Bits as the characters 0 and 1.
+pub fn digits(bits: &[bool]) -> String {
+    bits.iter()
+        .map(|&bit| if bit { '1' } else { '0' })
+        .collect()
+}

@@ -73,7 +73,7 @@ fn oversize(random: &mut Random, width: u32, value: u64) -> u64 {
 }
 
 /// A list that comes to more bits than a telegram holds.
-fn too_long(random: &mut Random) -> Draft {
+pub fn too_long(random: &mut Random) -> Draft {
     let mut draft = header(random);
     if random.percent(40) {
         // Texts around the longest that fits, 85 characters.

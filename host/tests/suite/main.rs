@@ -3,5 +3,7 @@
 mod programs;
 mod properties;
 mod refusals;
+mod sheet_refusals;
+mod sheets;
 mod worked;
 mod writer;

@@ -112,3 +112,86 @@ fn the_corpus_program() {
     }
     assert!(!run(corpus, &["7"], "").1);
 }
+
+const EMPTY_SHEET: &str = "variable,bits,value\r\nQ_UPDOWN,1,1\r\nM_VERSION,7,16\r\n\
+    Q_MEDIA,1,0\r\nN_PIG,3,0\r\nN_TOTAL,3,1\r\nM_DUP,2,0\r\nM_MCOUNT,8,255\r\nNID_C,10,9\r\n\
+    NID_BG,14,3007\r\nQ_LINK,1,1\r\nEND,8,255\r\n";
+
+fn sheets(word: &str, input: &str) -> String {
+    let (text, done) = run(env!("CARGO_BIN_EXE_sheets"), &[word], input);
+    assert!(done);
+    text
+}
+
+#[test]
+fn the_sheets_program() {
+    let refused = "refused 2 0\n";
+    assert_eq!(sheets("out", EMPTY), EMPTY_SHEET);
+    assert_eq!(sheets("out", &format!("{EMPTY}\n")), EMPTY_SHEET);
+    for wrong in [
+        "".to_string(),
+        "\n".to_string(),
+        format!("{EMPTY}\n\n"),
+        format!("{EMPTY}\r\n"),
+        format!("\n{EMPTY}\n"),
+        format!("{EMPTY}\n{EMPTY}\n"),
+        format!("{EMPTY} "),
+        format!("0{}x\n", &EMPTY[1..]),
+        EMPTY[..57].to_string(),
+        EMPTY.repeat(15),
+    ] {
+        assert_eq!(sheets("out", &wrong), refused, "{wrong}");
+    }
+    assert_eq!(sheets("out", &format!("{EMPTY}0\n")), "refused 11 50\n");
+    assert_eq!(sheets("in", EMPTY_SHEET), format!("{EMPTY}\n"));
+    assert_eq!(sheets("in", ""), "refused 20 0\n");
+    assert_eq!(
+        sheets("in", &EMPTY_SHEET.replace(",16", ",17")),
+        "refused 4 0\n"
+    );
+    assert_eq!(
+        sheets("in", &EMPTY_SHEET.replace(",16", ",016")),
+        "refused 20 2\n"
+    );
+    assert_eq!(
+        sheets("in", &EMPTY_SHEET.replace("N_PIG", "N_TOTAL")),
+        "refused 20 4\n"
+    );
+    assert_eq!(sheets("in", &EMPTY_SHEET.repeat(6000)), "refused 20 12\n");
+}
+
+#[test]
+fn the_sheets_program_says_how_it_is_used() {
+    for arguments in [
+        &[][..],
+        &["out", "in"],
+        &["in", "in"],
+        &["Out"],
+        &["--help"],
+        &[""],
+    ] {
+        let output = Command::new(env!("CARGO_BIN_EXE_sheets"))
+            .args(arguments)
+            .stdin(Stdio::null())
+            .output()
+            .expect("the program runs");
+        assert_eq!(output.stdout, b"usage: sheets out | in\n");
+        assert_eq!(output.status.code(), Some(2));
+    }
+}
+
+#[test]
+fn the_sheet_compare_program() {
+    let compare = env!("CARGO_BIN_EXE_sheet_compare");
+    let (text, alike) = run(
+        compare,
+        &["100", "3", "--", env!("CARGO_BIN_EXE_sheets")],
+        "",
+    );
+    assert!(alike && text.ends_with(" runs, 0 different\n"));
+    // The line program takes no arguments and knows no sheets.
+    let (text, alike) = run(compare, &["1", "3", "--", env!("CARGO_BIN_EXE_lines")], "");
+    assert!(!alike && text.starts_with("different: "));
+    assert!(!run(compare, &["100", "3", env!("CARGO_BIN_EXE_sheets")], "").1);
+    assert!(!run(compare, &["100", "3", "--"], "").1);
+}
