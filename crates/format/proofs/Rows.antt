@@ -13,7 +13,7 @@ use lib.ListN.{length, getD, List·getD-map}
 use Rattle.format.specs.Fields.{Field, steers, NID-PACKET, NID-XUSER}
 use Rattle.format.specs.Packets.{Items, Packet, header, etcs, ctcs, find}
 use Rattle.format.specs.Packets.Items.{end, nest, send, sendIf, sendEither, sendTimes}
-use Rattle.format.specs.Table.{Row, row, rows, rowAt, act, fieldAt, jump, up, switchOf, shape, nodesFrom, node, Start, startOf, packetStarts, etcsFrom, ctcsFrom, etcsRow, ctcsRow, codeOf, lowOf, highOf, words}
+use Rattle.format.specs.Table.{Row, row, rows, rowAt, act, fieldAt, jump, up, switchOf, shape, nodesFrom, node, Start, startOf, packetStarts, etcsFrom, ctcsFrom, etcsRow, ctcsRow, codeOf, lowOf, highOf, words, fieldNumbers}
 
 -- ---- a test at each element of a list
 
@@ -296,6 +296,12 @@ module _ where
   pub word-jump : (k : ℕ) → k < 213 → getD words k 0 / 16777216 ≡ jump k
   unfolding words rowAt
   word-jump = word-law (λ x. x / 16777216) jump tt
+
+-- ---- the numbers of the rows' fields
+
+pub number-at : (k : ℕ) → k < 213 → getD fieldNumbers k 0 ≡ fieldAt k .number
+unfolding fieldNumbers rowAt
+number-at k l = eqb→eq _ _ (each (λ k x. eqb x (fieldAt k .number)) 0 fieldNumbers tt k l)
 
 -- ---- a packet's first row stands in no group
 

@@ -187,3 +187,8 @@ word r =
 unfoldable pub words : List ℕ
 unfolding rows
 words = map word rows
+
+-- the number of each row's field
+unfoldable pub fieldNumbers : List ℕ
+unfolding rows
+fieldNumbers = map (λ r. r .field .number) rows

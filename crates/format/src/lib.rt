@@ -2,6 +2,7 @@
 ghost use mathlib.Core.Path.{_≡_};
 ghost use Rattle.format.specs.Refusals.{numberOf};
 
+pub mod fields;
 pub mod packets;
 pub mod table;
 
