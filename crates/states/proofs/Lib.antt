@@ -20,6 +20,7 @@ pub mod Runs
 pub mod Taking
 pub mod Filling
 pub mod Laying
+pub mod Valued
 pub mod Storing
 pub mod Patching
 pub mod Retelling

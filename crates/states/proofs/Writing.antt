@@ -5,7 +5,8 @@ use Prim.Native.Nat.{ℕ, _≤_, _<_}
 use borrow.Author.Tests.{le-leb, lt-leb}
 use lib.ListN.{length}
 use Rattle.format.specs.Rules.{paper}
-use Rattle.format.specs.Telegrams.{bitCount, write}
+use Rattle.format.specs.Telegrams.{Entry, Telegram, bitCount, values, write}
+use Rattle.format.specs.Telegrams.Result.{accepted}
 use Rattle.format.specs.declared.Kind.the-variants.{Room}
 use Rattle.format.specs.declared.Refusal.{Refusal}
 use Rattle.format.specs.declared.Answer.{Answer}
@@ -13,6 +14,20 @@ use Rattle.format.specs.declared.Answer.the-variants.{Accepted, Refused}
 use Rattle.laws.proofs.Demand2.{write-is}
 use Rattle.states.specs.Writer.{writeInto, sizeOf, Write, Storing, Stored}
 use Rattle.states.proofs.Checking.{was-accepted, was-refused}
+
+-- a list that the writer accepts is the values of a telegram of n bits
+pub record Written (vs : List ℕ) (n : ℕ) : Type 0 where
+  pub entries : List Entry
+  pub is : write paper vs ≡ accepted entries
+  pub telegram : Telegram paper entries
+  pub same : vs ≡ values entries
+  pub size : n ≡ bitCount entries
+
+pub written : (vs : List ℕ) {a : Answer} {n : ℕ} → a ≡ sizeOf (write paper vs) → a ≡ Accepted n → Written vs n
+written vs {a} {n} p q =
+    let w = was-accepted bitCount (write paper vs) a n p q in
+    let t = write-is paper vs (w .entries) (w .is) in
+    record { entries = w .entries; is = w .is; telegram = t .0; same = t .1; size = w .counted }
 
 module _ (vs before : List ℕ) where
   pub writes-roomless : length before < 104 → Write paper vs before (Refused (record { kind = Room; place = 0 })) before
@@ -31,12 +46,10 @@ module _ (vs before : List ℕ) where
       -- what is written is a telegram with these values
       pub storable : Storing vs n before
       storable =
-          let w = was-accepted bitCount (write paper vs) a n p q in
-          let t = write-is paper vs (w .entries) (w .is) in
-          record { entries = w .entries; telegram = t .0; same = t .1; size = w .counted; room = h }
+          let w = written vs p q in
+          record { entries = w .entries; telegram = w .telegram; same = w .same; size = w .size; room = h }
 
       pub writes-accepted : (after : List ℕ) → Stored vs before after → Write paper vs before a after
       writes-accepted after f =
-          let w = was-accepted bitCount (write paper vs) a n p q in
-          let t = write-is paper vs (w .entries) (w .is) in
-          record { answers = rw into p; contents = rw (into, w .is) (f (w .entries) (t .0) (t .1)) }
+          let w = written vs p q in
+          record { answers = rw into p; contents = rw (into, w .is) (f (w .entries) (w .telegram) (w .same)) }

@@ -8,7 +8,8 @@ use borrow.Author.Needs.{needs}
 use lib.ListN.{length}
 use Rattle.bits.proofs.Bytes.{below-known}
 use Rattle.states.proofs.Runs.{low}
-use Rattle.states.proofs.Storing.{Laying, bits-all, laying-first, in-values, value-is, stores, lays-on}
+use Rattle.states.proofs.Storing.{Laying, bits-all, laying-first, stores, lays-on}
+use Rattle.states.proofs.Valued.{in-values, value-is}
 use Rattle.states.proofs.Laying.{some-bits, last-in, same-size}
 use Rattle.telegram.proofs.writer.store.Statement.{statement}
 use Rattle.telegram.proofs.writer.store.Tie as tie
@@ -32,15 +33,15 @@ loop-holds : tie.Need-loop-holds Inv-loop μ-loop
 loop-holds c = laying-first (c .before .before .before .pre)
 
 width-requires : tie.Need-width-requires Inv-loop μ-loop
-width-requires c κs = record { table = c .before .before .rows .ensures; inside = c .before .loop .inv .onward .tidy .inside }
+width-requires c κs = record { table = c .before .before .rows .ensures; inside = c .before .loop .inv .valued .onward .tidy .inside }
 
 mul-v : tie.Need-mul-v Inv-loop μ-loop
 mul-v c =
     let g = c .before .before .loop .inv in
-    omega (arith, low (g .onward) (c .width .ensures), g .count)
+    omega (arith, low (g .valued .onward) (c .width .ensures), g .valued .count)
 
 shared-slice-read-v : tie.Need-shared-slice-read-v Inv-loop μ-loop
-shared-slice-read-v c = in-values (c .before .before .before .loop .inv)
+shared-slice-read-v c = in-values (c .before .before .before .loop .inv .valued)
 
 put-requires : tie.Need-put-requires Inv-loop μ-loop
 put-requires c κs = search needs
@@ -48,7 +49,7 @@ put-requires c κs = search needs
 advance-requires : tie.Need-advance-requires Inv-loop μ-loop
 advance-requires c κs =
     let b = c .before .before .before .before .before .before .before .before in
-    (record { table = b .before .rows .ensures; inside = b .loop .inv .onward .tidy .inside }, b .loop .inv .onward .tidy)
+    (record { table = b .before .rows .ensures; inside = b .loop .inv .valued .onward .tidy .inside }, b .loop .inv .valued .onward .tidy)
 
 enum-told : tie.Need-enum-told Inv-loop μ-loop
 enum-told c = search needs
@@ -59,7 +60,7 @@ same-length c =
     let b = p .before .before .before in
     let out = b .before .before .before .before .before .before .args .out .now in
     let g = b .before .before .loop .inv in
-    same-size (g .laid) (g .onward) (b .width .ensures) (value-is g) (p .put .ensures) out refl
+    same-size (g .laid) (g .valued .onward) (b .width .ensures) (value-is (g .valued)) (p .put .ensures) out refl
 
 returns : tie.Need-returns Inv-loop μ-loop
 returns c =
@@ -76,15 +77,15 @@ enum-known-u c = search needs
 add-at : tie.Need-add-at Inv-loop μ-loop
 add-at c =
     let b = c .before .before .before .before .before .before .before .before .before .before in
-    omega (arith, low (b .before .before .loop .inv .onward) (b .width .ensures))
+    omega (arith, low (b .before .before .loop .inv .valued .onward) (b .width .ensures))
 
 add-i : tie.Need-add-i Inv-loop μ-loop
 add-i c =
     let b = c .before .before .before .before .before .before .before .before .before .before in
-    omega (arith, low (b .before .before .loop .inv .onward) (b .width .ensures), b .before .before .loop .inv .count)
+    omega (arith, low (b .before .before .loop .inv .valued .onward) (b .width .ensures), b .before .before .loop .inv .valued .count)
 
 loop-less : tie.Need-loop-less Inv-loop μ-loop
-loop-less c = omega (arith, in-values (c .before .before .before .before .before .before .before .before .before .before .before .before .loop .inv))
+loop-less c = omega (arith, in-values (c .before .before .before .before .before .before .before .before .before .before .before .before .loop .inv .valued))
 
 loop-again : tie.Need-loop-again Inv-loop μ-loop
 loop-again c =
