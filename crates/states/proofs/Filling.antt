@@ -29,7 +29,7 @@ use Rattle.states.proofs.Runs.{stored, restDue, values-front, positive,
 
 -- ---- the run of values
 
-stored-more : (out xs : List ℕ) (i v : ℕ) → i < length out → stored out (v ∷ xs) i ≡ stored (set out i v) xs (i + 1)
+pub stored-more : (out xs : List ℕ) (i v : ℕ) → i < length out → stored out (v ∷ xs) i ≡ stored (set out i v) xs (i + 1)
 stored-more out xs i v l =
     rw (
       add-one i,
@@ -42,7 +42,7 @@ stored-more out xs i v l =
     further : length (v ∷ xs) + i ≡ length xs + suc i
     further = omega arith
 
-stored-last : (out : List ℕ) (i v : ℕ) → i < length out → stored out (v ∷ []) i ≡ set out i v
+pub stored-last : (out : List ℕ) (i v : ℕ) → i < length out → stored out (v ∷ []) i ≡ set out i v
 stored-last out i v l = rw (one-add i) (sym (set-split out i v l))
 
 -- ---- a turn

@@ -22,6 +22,7 @@ pub mod Filling
 pub mod Laying
 pub mod Valued
 pub mod Storing
+pub mod Labelling
 pub mod Patching
 pub mod Retelling
 pub mod Sending
@@ -36,4 +37,5 @@ pub mod Once
 pub mod Leaves
 pub mod Cheats
 pub mod WriterCheats
+pub mod LabelCheats
 pub mod NormalCheats

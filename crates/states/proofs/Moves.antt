@@ -1,7 +1,7 @@
 -- What is still to be sent, as the machine keeps it: what each of its moves makes of it, over plain numbers and records.
 -- Assumes nothing.
 use mathlib.Core.Path.{_≡_, refl, _∙_, sym, ap}
-use mathlib.Core.Bool.{cond}
+use mathlib.Core.Bool.{Bool, true, false, cond}
 use mathlib.Core.Logic.{_⊎_, inl, inr, ⊎-elim}
 use mathlib.Core.Option.{some}
 use Prim.Native.Nat.{ℕ, zero, suc, _+_, _-_, _<_}
@@ -10,15 +10,17 @@ use native.Mathlib.Numerals.{add-one}
 use native.Mathlib.Omega.{arith}
 use borrow.Author.Tests.{eq-eqb, ne-eqb}
 use lib.Dec.{eqb, eqb·suc-zero}
+use Rattle.format.specs.Fields.{NID-PACKET, END}
 use Rattle.format.specs.Packets.{Items, _⧺_, times}
 use Rattle.format.specs.Packets.Items.{end, nest, send}
-use Rattle.format.specs.Rules.{Context, due, next, settled}
+use Rattle.format.specs.Rules.{Context, due, named, next, settled}
 use Rattle.format.specs.Rules.Next.{go}
 use Rattle.format.specs.Table.{act, fieldAt, jump, up, node}
 use Rattle.format.proofs.Rows.{jump-in, up-in, next-in, three-up, end-jump, next-up, jump-up, group-up, two-up, group-starts, up-repeats, if-jump, if-next, node-end, node-nest, node-send, node-if, node-either, node-times, end-field, none-act, none-up}
+use Rattle.states.specs.Labels.{numberAt}
 use Rattle.states.specs.Machine.{onward, todoAt, todoOf, after, Tidy, Followed, Moved, Turned}
 use Rattle.states.specs.declared.Todo.{Todo}
-use Rattle.states.proofs.Shapes.{append-end, row-due, row-goes, row-next, row-after, three-or-four}
+use Rattle.states.proofs.Shapes.{append-end, row-due, row-named, row-goes, row-next, row-after, three-or-four}
 
 -- ---- what is to be sent, by its row
 
@@ -62,6 +64,24 @@ due-right t d =
     (λ (e : act (t .node) ≡ 0). end-field (t .node) e ∙ sym (ap due (todo-end (t .node) (t .left) (t .outer) e (d .settled e))))
     (λ l. sym (row-due (t .node) _ l))
     (eq-zero-or-pos (act (t .node)))
+
+-- the number of the field under whose name a value is sent is the row's, but between packets the end mark's if the value is 255
+pub named-right : (t : Todo) → Tidy t → (v : ℕ) → named (todoOf t) v .number ≡ numberAt (t .node) v
+unfolding todoAt
+named-right t d v = ⊎-elim between inside (eq-zero-or-pos (act (t .node)))
+  where
+    marked : (b : Bool) → cond b END NID-PACKET .number ≡ cond b (END .number) (NID-PACKET .number)
+    marked true = refl
+    marked false = refl
+
+    between : act (t .node) ≡ 0 → named (todoOf t) v .number ≡ numberAt (t .node) v
+    between e =
+        ap (λ i. named i v .number) (todo-end (t .node) (t .left) (t .outer) e (d .settled e))
+        ∙ marked (eqb v 255)
+        ∙ rw (eq-eqb (act (t .node)) 0 e, end-field (t .node) e)
+
+    inside : 0 < act (t .node) → named (todoOf t) v .number ≡ numberAt (t .node) v
+    inside l = rw (ne-eqb (act (t .node)) 0 (λ e. omega arith)) (ap (λ f. f .number) (row-named (t .node) _ l v))
 
 -- ---- a field that repeats nothing: `follow`
 

@@ -10,7 +10,7 @@ use lib.Dec.{eqb}
 use Rattle.format.specs.Fields.{Field}
 use Rattle.format.specs.Packets.{Items, _⧺_}
 use Rattle.format.specs.Packets.Items.{end, nest, send, sendIf, sendEither, sendTimes}
-use Rattle.format.specs.Rules.{Context, due, next, settled}
+use Rattle.format.specs.Rules.{Context, due, named, next, settled}
 use Rattle.format.specs.Rules.Next.{go}
 use Rattle.format.specs.Table.{act, fieldAt, jump, shape, node}
 use Rattle.format.proofs.Rows.{shaped, dueAt, field-due}
@@ -55,6 +55,16 @@ module _ (f g : Field) (a b x : Items) where
   shape-due (suc (suc (suc (suc zero)))) l = refl
   shape-due (suc (suc (suc (suc (suc n))))) l = refl
 
+  -- no end, so that its value is sent under the name of that field, whatever it is
+  shape-named : (n : ℕ) → 0 < n → (v : ℕ) → named (shape n f g a b ⧺ x) v ≡ dueAt n f
+  unfolding shape _⧺_
+  shape-named zero l v = absurd (omega arith)
+  shape-named (suc zero) l v = refl
+  shape-named (suc (suc zero)) l v = refl
+  shape-named (suc (suc (suc zero))) l v = refl
+  shape-named (suc (suc (suc (suc zero)))) l v = refl
+  shape-named (suc (suc (suc (suc (suc n))))) l v = refl
+
   -- no end, so that no packet's length is tested
   shape-goes : (n : ℕ) → 0 < n → (p : ℕ) (c : Context) → settled p (shape n f g a b ⧺ x) c ≡ go (shape n f g a b ⧺ x) c
   unfolding shape _⧺_ settled
@@ -95,6 +105,10 @@ module _ (k : ℕ) (x : Items) where
   -- the field that is due is the row's
   pub row-due : 0 < act k → due (node k ⧺ x) ≡ fieldAt k
   row-due l = ap (λ i. due (i ⧺ x)) (shaped k) ∙ shape-due _ _ _ _ x (act k) l ∙ field-due k
+
+  -- no end, so that its value is sent under the name of that field
+  pub row-named : 0 < act k → (v : ℕ) → named (node k ⧺ x) v ≡ fieldAt k
+  row-named l v = ap (λ i. named (i ⧺ x) v) (shaped k) ∙ shape-named _ _ _ _ x (act k) l v ∙ field-due k
 
   -- no end, so that no packet's length is tested
   pub row-goes : 0 < act k → (p : ℕ) (c : Context) → settled p (node k ⧺ x) c ≡ go (node k ⧺ x) c

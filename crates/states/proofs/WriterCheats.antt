@@ -24,7 +24,7 @@ unfolding writeInto write drive begun fromValues digits valueOf step next find e
 computed vs = writeInto paper vs (length lent)
 
 -- document 01's case 1, of 58 bits, and its bytes
-abbrev one : List ℕ
+abbrev pub one : List ℕ
 one = 1 ∷ 16 ∷ 0 ∷ 0 ∷ 1 ∷ 0 ∷ 255 ∷ 9 ∷ 3007 ∷ 1 ∷ 255 ∷ []
 
 abbrev bytes : List ℕ
@@ -39,7 +39,7 @@ unfolding computed bitsIn bytesOf packed filled
 one-written = refl
 
 -- the same without its end mark is refused
-abbrev unended : List ℕ
+abbrev pub unended : List ℕ
 unended = 1 ∷ 16 ∷ 0 ∷ 0 ∷ 1 ∷ 0 ∷ 255 ∷ 9 ∷ 3007 ∷ 1 ∷ []
 
 unended-keeps : bytesOver (writeInto paper unended 104) lent ≡ lent
