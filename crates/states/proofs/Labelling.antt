@@ -1,13 +1,18 @@
 -- The second run of `label`: the number that it stores for each value is that of the entry's field. And `label` by the tests that it makes.
 -- Assumes nothing.
 use mathlib.Core.Path.{_≡_, refl, sym, ap, _∙_}
+use mathlib.Core.Bool.{Bool, true, false, cond, _&&_}
 use mathlib.Core.List.{List, _∷_, _++_}
+use mathlib.Core.Logic.{_⊎_, inl, inr}
 use Prim.Native.Nat.{ℕ, _+_, _≤_, _<_}
 use native.Mathlib.Nat.{add-zero}
 use native.Mathlib.Omega.{arith}
-use borrow.Author.Tests.{le-leb, lt-leb}
+use borrow.Author.Tests.{eq-eqb, ne-eqb, le-leb, lt-leb}
+use lib.Dec.{eqb}
 use lib.ListN.{length, drop, getD, set, length-set}
+use Rattle.format.specs.Fields.{END}
 use Rattle.format.specs.Rules.{paper, named}
+use Rattle.format.specs.Table.{act, fieldAt}
 use Rattle.format.specs.Telegrams.{Entry, bitCount, write}
 use Rattle.format.specs.Telegrams.Result.{accepted}
 use Rattle.format.specs.declared.Kind.the-variants.{Room}
@@ -27,6 +32,22 @@ use Rattle.states.proofs.Moves.{named-right}
 use Rattle.states.proofs.Runs.{stored, held, valueDue, restDue, positive, low, nothing-left}
 use Rattle.states.proofs.Valued.{Valued, valued-first, valued-next, value-is, one-telegram}
 use Rattle.states.proofs.Writing.{written}
+
+-- ---- which number, by the tests
+
+module _ (k v : ℕ) where
+  -- 255 between packets
+  pub mark-number : act k ≡ 0 → v ≡ 255 → END .number ≡ numberAt k v
+  mark-number e m = rw (eq-eqb (act k) 0 e, eq-eqb v 255 m)
+
+  -- anywhere else, and any other value
+  pub row-number : (act k ≡ 0 → ⊥) ⊎ (v ≡ 255 → ⊥) → fieldAt k .number ≡ numberAt k v
+  row-number (inl n) = rw (ne-eqb (act k) 0 n)
+  row-number (inr n) = rw (ne-eqb v 255 n) (neither (eqb (act k) 0))
+    where
+      neither : (b : Bool) → fieldAt k .number ≡ cond (b && false) (END .number) (fieldAt k .number)
+      neither true = refl
+      neither false = refl
 
 -- ---- a turn
 

@@ -1,8 +1,9 @@
-// Checking, reading, writing and normalising telegrams, by one machine.
+// Checking, reading, writing, labelling and normalising telegrams, by one machine.
 mod answer;
 mod driver;
 mod earlier;
 mod head;
+mod labels;
 mod machine;
 mod normaliser;
 mod reader;
@@ -12,6 +13,7 @@ mod todo;
 mod verdict;
 mod writer;
 
+pub use labels::label;
 pub use normaliser::normalise;
 pub use reader::check;
 pub use reader::read;

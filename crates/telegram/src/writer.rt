@@ -36,7 +36,7 @@ pub fn write(values: &[u64], out: &mut [u8]) -> Answer
 
 // Goes over the values, each for the field that is due, up to the first broken rule or the end mark. Every packet whose Q_DIR was sent
 // is in seen, as in the check.
-fn measure(values: &[u64]) -> Answer
+pub(crate) fn measure(values: &[u64]) -> Answer
     ensures { λ r. ⌜ r ≡ sizeOf (telegrams.write paper (now (values .entry))) ⌝ }
 {
     let rows = table::rows();
