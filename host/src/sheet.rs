@@ -16,7 +16,7 @@ pub(crate) use row::Row;
 pub(crate) const HEADER: &[u8] = b"variable,bits,value\r\n";
 
 /// The number of the refusals that have a row.
-const NUMBER: u32 = 20;
+const SHEET_REFUSAL: u32 = 20;
 
 /// Why a sheet is refused. Rows are counted from 1, and the header is row 0.
 #[derive(Clone, Copy, Debug, PartialEq, Eq)]
@@ -33,7 +33,7 @@ impl Refused {
     /// The refusal number.
     pub fn number(&self) -> u32 {
         match self {
-            Refused::Row(_) | Refused::Name(_) => NUMBER,
+            Refused::Row(_) | Refused::Name(_) => SHEET_REFUSAL,
             Refused::Telegram(refusal) => refusal.number,
         }
     }
@@ -72,7 +72,7 @@ pub fn import(text: &[u8]) -> Result<(Vec<u8>, u64), Refused> {
 }
 
 /// The rows after the header, or the number of the first bad one.
-pub(crate) fn rows(text: &[u8]) -> Result<Vec<Row>, u64> {
+fn rows(text: &[u8]) -> Result<Vec<Row>, u64> {
     let mut rest = text.strip_prefix(HEADER).ok_or(0u64)?;
     let mut rows = Vec::new();
     while !rest.is_empty() {

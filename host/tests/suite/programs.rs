@@ -1,6 +1,8 @@
 //! The programs, by what they print.
 
+use std::fs;
 use std::io::Write;
+use std::path::Path;
 use std::process::{Command, Stdio};
 
 const EMPTY: &str = "1001000000000010011111111000000100100101110111111111111111";
@@ -191,7 +193,12 @@ fn the_sheet_compare_program() {
     assert!(alike && text.ends_with(" runs, 0 different\n"));
     // The line program takes no arguments and knows no sheets.
     let (text, alike) = run(compare, &["1", "3", "--", env!("CARGO_BIN_EXE_lines")], "");
-    assert!(!alike && text.starts_with("different: "));
+    let first = text.lines().next().and_then(|line| line.split_once(" < "));
+    let (case, saved) = first.expect("a case and its input");
+    assert!(!alike && case == "different: out");
+    assert!(fs::read(saved).is_ok_and(|input| input == EMPTY.as_bytes()));
+    let folder = Path::new(saved).parent().expect("a folder");
+    fs::remove_dir_all(folder).expect("the folder goes again");
     assert!(!run(compare, &["100", "3", env!("CARGO_BIN_EXE_sheets")], "").1);
     assert!(!run(compare, &["100", "3", "--"], "").1);
 }

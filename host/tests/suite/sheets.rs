@@ -2,7 +2,7 @@
 
 use plain::corpus::draft::{pack, Draft};
 use plain::corpus::random::Random;
-use plain::corpus::sheets::damaged;
+use plain::corpus::sheets::{damaged, fixed_sheets};
 use plain::corpus::sound::sound;
 use plain::corpus::Corpus;
 use plain::sheet::{export, import, Refused};
@@ -212,4 +212,14 @@ fn a_small_corpus_has_every_refusal() {
         }
         assert_eq!(seen.len(), 10 + 4, "seed {seed}: {seen:?}");
     }
+}
+
+#[test]
+fn fixed_sheets_have_a_wrong_name_for_each_of_72() {
+    let sheets = fixed_sheets(&mut Random::new(24));
+    let answers: Vec<_> = sheets.iter().map(|sheet| import(sheet)).collect();
+    let wrong_names = answers
+        .iter()
+        .filter(|answer| matches!(answer, Err(Refused::Name(_))));
+    assert_eq!(wrong_names.count(), 72);
 }
