@@ -45,7 +45,7 @@ module _ {A : Type 0} (f : ℕ → A → Bool) (d : A) where
       subst (λ (m : ℕ). T (f m (getD xs k d))) (suc-add i k ∙ sym (add-suc i k))
       (from xs (suc i) (and-right (f i x) (every f (suc i) xs) t) k (le-of-suc-le-suc h))
 
-  each : (xs : List A) → T (every f 0 xs) → (k : ℕ) → k < length xs → T (f k (getD xs k d))
+  pub each : (xs : List A) → T (every f 0 xs) → (k : ℕ) → k < length xs → T (f k (getD xs k d))
   each xs t k h = subst (λ (m : ℕ). T (f m (getD xs k d))) (zero-add k) (from xs 0 t k h)
 
 pub row-law : (f : ℕ → Row → Bool) → T (every f 0 rows) → (k : ℕ) → k < 213 → T (f k (rowAt k))

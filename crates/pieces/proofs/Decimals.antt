@@ -235,7 +235,7 @@ module _ (c : ℕ) (text : List ℕ) (x : Found) where
   fronted-digits : (c ≡ 48 → ⊥) → isDigit c ≡ true → bounded (digitsFrom 0 0 (c ∷ text)) ≡ some x → Fronted decimal (c ∷ text) x
   fronted-digits d e s =
       let b = digit-bounds c e in
-      let y = bounded-is _ x s in
+      let y = bounded-is (digitsFrom 0 0 (c ∷ text)) x s in
       let g : 48 < c = lt-of-ne (b .0) d in
       let first : digitsOf 1 (c - 48) ≡ c ∷ [] =
       digits-one 0 (c - 48) (omega (arith, b .1)) ∙ ap (λ (z : ℕ). z ∷ []) (omega (arith, b .0)) in

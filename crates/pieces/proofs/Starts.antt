@@ -2,14 +2,14 @@
 use mathlib.Core.Path.{_≡_, refl, sym, ap, _∙_}
 use mathlib.Core.Bool.{Bool, true, false, cond, _&&_}
 use mathlib.Core.List.{List, [], _∷_, _++_, append-assoc}
-use Prim.Native.Nat.{ℕ, zero, suc, _+_, _≤_, _<_}
+use Prim.Native.Nat.{ℕ, zero, suc, _+_, _-_, _≤_, _<_}
 use native.Mathlib.Numerals.{add-one}
 use native.Mathlib.Omega.{arith}
 use borrow.Author.Tests.{eq-eqb, ne-eqb, eqb-true, le-leb, lt-leb}
 use lib.Dec.{eqb}
-use lib.ListN.{length, take, drop, getD, set, length-append, drop-of-length-le}
-use lib.Seq.{drop-cons, drop-length, take-length, take-at, drop-at, paste, paste-zero, paste-suc, drop-append-add, drop-drop}
-use Rattle.pieces.specs.Pieces.{begins, over, past, Appended}
+use lib.ListN.{length, take, drop, getD, length-append, length-drop, drop-of-length-le}
+use lib.Seq.{drop-cons, take-length, take-all, take-at, paste, drop-append-add, drop-drop}
+use Rattle.pieces.specs.Pieces.{begins, over, past, Appended, Grown}
 
 -- ---- begins
 
@@ -77,11 +77,7 @@ module _ (before : List ℕ) (at : ℕ) (piece : List ℕ) where
             (same ∙ ap (paste before at piece) e ∙ ap (λ (l : List ℕ). take at before ++ l ++ drop (at + length piece) before) (take-length piece));
       }
 
--- a text so far, with what was there behind it, ends at a position
-pub record Grown (before text : List ℕ) (at : ℕ) (out : List ℕ) : Type 0 where
-  pub here : at ≡ length text
-  pub is : out ≡ text ++ drop (length text) before
-
+-- nothing yet
 pub grown-none : (before : List ℕ) → Grown before [] 0 before
 grown-none before = record { here = refl; is = refl }
 
@@ -98,7 +94,7 @@ grows {before} {text} {out} {after} {piece} {at} {end} g p h =
     long : length out ≡ length text + length (drop (length text) before)
     long = ap length (g .is) ∙ length-append text (drop (length text) before)
     fits : at + length piece ≤ length out
-    fits = let l = lib.ListN.length-drop (length text) before in omega (arith, long, g .here, h, l)
+    fits = let l = length-drop (length text) before in omega (arith, long, g .here, h, l)
     front : take at out ≡ text
     front = ap (take at) (g .is) ∙ take-at text (drop (length text) before) at (sym (g .here))
     rest : drop (at + length piece) out ≡ drop (length (text ++ piece)) before
@@ -108,3 +104,7 @@ grows {before} {text} {out} {after} {piece} {at} {end} g p h =
         ∙ drop-append-add text (drop (length text) before) (length piece)
         ∙ drop-drop (length piece) (length text) before
         ∙ ap (λ (k : ℕ). drop k before) (sym (length-append text piece))
+
+-- the part from r to the end
+pub last-part : (n r : ℕ) (d : List ℕ) → length d ≡ n → take (n - r) (drop r d) ≡ drop r d
+last-part n r d h = take-all (n - r) (drop r d) (rw (length-drop r d, h) (omega arith))

@@ -27,3 +27,8 @@ past text at piece = cond (roomy text at piece) (at + length piece) at
 pub record Appended (before : List ℕ) (at : ℕ) (piece : List ℕ) (end : ℕ) (after : List ℕ) : Type 0 where
   pub ends : end ≡ past before at piece
   pub text : after ≡ over before at piece
+
+-- a text so far, with what was there behind it, ends at a position
+pub record Grown (before text : List ℕ) (at : ℕ) (out : List ℕ) : Type 0 where
+  pub here : at ≡ length text
+  pub is : out ≡ text ++ drop (length text) before

@@ -1,5 +1,6 @@
 // Numbers put as text: decimal, and as sixteen places of four bits.
 ghost use mathlib.Core.Path.{_≡_};
+ghost use Prim.Native.Nat.{_≤_};
 ghost use lib.ListN.{length, drop};
 ghost use Rattle.pieces.specs.Numbers.{decimal, letter, sixteen};
 ghost use Rattle.pieces.specs.Pieces.{Appended};
@@ -17,7 +18,7 @@ pub fn append_decimal(out: &mut [u8], at: usize, v: u64) -> usize
 // Puts the digits of v at the end of d, and gives where they begin.
 fn digits(v: u64, d: &mut [u8]) -> usize
     requires { ⌜ length (now d) ≡ 20 ⌝ }
-    ensures { λ r. ⌜ drop r (now (d .exit)) ≡ decimal v ⌝ }
+    ensures { λ r. ⌜ (r ≤ 20) × (length (now (d .exit)) ≡ 20) × (drop r (now (d .exit)) ≡ decimal v) ⌝ }
 {
     let mut n = v;
     let mut i: usize = 20;

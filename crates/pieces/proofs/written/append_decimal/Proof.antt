@@ -1,26 +1,34 @@
 -- `pieces::written::append_decimal` meets its contract: the piece that is put is the digits. Assumes nothing.
+use mathlib.Core.Path.{subst, _∙_}
+use mathlib.Core.List.{List}
+use Prim.Native.Nat.{ℕ}
+use native.Mathlib.Omega.{arith}
 use borrow.Author.Needs.{needs}
 use denote.Ref.{now}
+use Rattle.pieces.specs.Pieces.{Appended}
+use Rattle.pieces.proofs.Starts.{last-part}
 use Rattle.pieces.proofs.written.append_decimal.Statement.{statement}
 use Rattle.pieces.proofs.written.append_decimal.Tie as tie
 
 returns : tie.Need-returns
-returns c = rw (← (c .before .before .before .before .before .before .before .digits .ensures)) (c .before .before .append .ensures)
+returns c =
+    let e = last-part 20 (c .before .before .before .before .before .before .before .digits .result) _ (c .before .before .before .before .before .before .before .digits .ensures .1) ∙ c .before .before .before .before .before .before .before .digits .ensures .2 in
+    subst (λ (l : List ℕ). Appended (now (c .before .before .before .before .before .before .before .before .before .before .args .out)) (c .before .before .before .before .before .before .before .before .before .before .args .at) l (c .before .before .append .result) (c .before .before .append .last .0)) e (c .before .before .append .ensures)
+
+sub-append : tie.Need-sub-append
+sub-append c = omega (arith, c .before .before .digits .ensures .0)
+
+part-append-start : tie.Need-part-append-start
+part-append-start c = omega (arith, c .before .before .before .digits .ensures .0)
+
+part-append-end : tie.Need-part-append-end
+part-append-end c = omega (arith, c .before .before .before .digits .ensures .0)
 
 slice-aggregate-digits : tie.Need-slice-aggregate-digits
 slice-aggregate-digits c = search needs
 
 digits-requires : tie.Need-digits-requires
 digits-requires c κs = search needs
-
-sub-append : tie.Need-sub-append
-sub-append c = ?
-
-part-append-start : tie.Need-part-append-start
-part-append-start c = search needs
-
-part-append-end : tie.Need-part-append-end
-part-append-end c = search needs
 
 append-requires : tie.Need-append-requires
 append-requires c κs = search needs

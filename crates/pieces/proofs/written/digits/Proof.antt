@@ -25,7 +25,7 @@ same-length : tie.Need-same-length Inv-loop μ-loop
 same-length c = simp length-set (c .before .loop .inv .size ∙ sym (c .before .before .pre))
 
 returns : tie.Need-returns Inv-loop μ-loop
-returns c = put-first (c .before .loop .inv) (omega arith)
+returns c = (omega (arith, c .before .loop .inv .within), simp length-set (c .before .loop .inv .size), put-first (c .before .loop .inv) (omega arith))
 
 sub-i : tie.Need-sub-i Inv-loop μ-loop
 sub-i c = omega arith

@@ -1,0 +1,44 @@
+// Data sheets: a telegram as a table of text, written and read.
+ghost use mathlib.Core.Path.{_≡_};
+ghost use Rattle.sheet.specs.Sheets.{numberOf, valueOf};
+
+mod labels;
+mod reading;
+mod row;
+mod writing;
+
+use format::Refusal;
+pub use reading::import;
+pub use writing::export;
+
+// What export and import answer: done, with the length of the sheet or the n of the telegram; refused by the library; or refused at a row.
+pub enum Reply {
+    Done(usize),
+    Refused(Refusal),
+    Row(usize),
+}
+
+// The paper's number of a reply: 0 where nothing is refused.
+pub fn number(reply: Reply) -> u64
+    ensures { λ r. ⌜ r ≡ numberOf reply ⌝ }
+{
+    match reply {
+        Reply::Done(_) => 0,
+        Reply::Refused(r) => {
+            let kind = r.kind;
+            format::number(kind)
+        }
+        Reply::Row(_) => 20,
+    }
+}
+
+// What comes with it: the size of what was made, the place, or the row.
+pub fn value(reply: Reply) -> usize
+    ensures { λ r. ⌜ r ≡ valueOf reply ⌝ }
+{
+    match reply {
+        Reply::Done(n) => n,
+        Reply::Refused(r) => r.place,
+        Reply::Row(k) => k,
+    }
+}
