@@ -270,3 +270,14 @@ decimal-is (c ∷ text) x e = by (eqb c 48) (isDigit c) refl refl e
     by true q h k z = fronted-zero c text x (eqb-true c 48 h) cc
     by false true h k z = fronted-digits c text x (eqb-false c 48 h) k z
     by false false h k z = let w : _≡_ {A = ℕ} 0 1 = cc in absurd (omega arith)
+
+-- no more characters than digits were asked for
+pub length-decimal : (k n : ℕ) → length (digitsOf k n) ≤ k
+unfolding digitsOf
+length-decimal zero n = omega arith
+length-decimal (suc k) n = by (ltb n 10) (length-decimal k (n / 10))
+  where
+    by : (b : Bool) → length (digitsOf k (n / 10)) ≤ k
+        → length (cond b ((48 + n) ∷ []) (digitsOf k (n / 10) ++ ((48 + n % 10) ∷ []))) ≤ suc k
+    by true h = omega arith
+    by false h = rw (length-append (digitsOf k (n / 10)) ((48 + n % 10) ∷ [])) (omega arith)

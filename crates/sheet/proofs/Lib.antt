@@ -1,0 +1,6 @@
+-- What is proved of sheets, in reading order.
+pub mod Table
+pub mod Texts
+pub mod Fronts
+pub mod Columns
+pub mod Gathering

@@ -27,7 +27,7 @@ use Rattle.format.specs.Rules as rules
 
 -- ---- one entry more
 
-all-append : (part : Entry → List ℕ) (a b : List Entry) → all part (a ++ b) ≡ all part a ++ all part b
+pub all-append : (part : Entry → List ℕ) (a b : List Entry) → all part (a ++ b) ≡ all part a ++ all part b
 all-append part [] b = refl
 all-append part (x ∷ a) b = rw (all-append part a b, append-assoc)
 

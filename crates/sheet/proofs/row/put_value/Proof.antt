@@ -1,0 +1,35 @@
+-- `sheet::row::put_value` meets its contract. Assumes nothing.
+use borrow.Author.Needs.{needs}
+use denote.Ref.{now}
+use Rattle.sheet.proofs.Texts.{text-radio, text-other}
+use Rattle.sheet.proofs.row.put_value.Statement.{statement}
+use Rattle.sheet.proofs.row.put_value.Tie as tie
+
+returns : tie.Need-returns
+returns c = rw (text-radio (c .before .before .before .before .before .before .args .k) (c .before .before .before .before .before .before .args .v) (c .before .before .before .before .before .before .pre) (c .before .before .before .before .if1 .taken)) (c .before .before .append-places .ensures)
+
+returns-2 : tie.Need-returns-2
+returns-2 c = rw (text-other (c .before .before .before .before .before .before .args .k) (c .before .before .before .before .before .before .args .v) (c .before .before .before .before .before .before .pre) (c .before .before .before .before .if1 .left)) (c .before .before .append-decimal .ensures)
+
+append-places-requires : tie.Need-append-places-requires
+append-places-requires c κs = search needs
+
+same-length : tie.Need-same-length
+same-length c = search needs
+
+append-decimal-requires : tie.Need-append-decimal-requires
+append-decimal-requires c κs = search needs
+
+same-length-2 : tie.Need-same-length-2
+same-length-2 c = search needs
+
+pub put-value-spec : {M : Type 1} → statement M
+put-value-spec =
+    tie.close
+    (tie.spec
+    append-places-requires
+    same-length
+    returns
+    append-decimal-requires
+    same-length-2
+    returns-2)
