@@ -93,10 +93,13 @@ grows {before} {text} {out} {after} {piece} {at} {end} g p h =
   where
     long : length out ≡ length text + length (drop (length text) before)
     long = ap length (g .is) ∙ length-append text (drop (length text) before)
+
     fits : at + length piece ≤ length out
     fits = let l = length-drop (length text) before in omega (arith, long, g .here, h, l)
+
     front : take at out ≡ text
     front = ap (take at) (g .is) ∙ take-at text (drop (length text) before) at (sym (g .here))
+
     rest : drop (at + length piece) out ≡ drop (length (text ++ piece)) before
     rest =
         ap (drop (at + length piece)) (g .is)

@@ -105,6 +105,7 @@ module _ {ks vs before : List ℕ} {start at : ℕ} {out : List ℕ} {i : ℕ} (
           let a = length-take-le i ks (omega (arith, p .columns .same, h)) in
           let b = length-take-le i vs (omega (arith, h)) in
           a ∙ sym b
+
       rows-then : all rowText (entriesOf (take i ks) (take i vs)) ++ rowText (entryOf (getD ks i 0) (getD vs i 0)) ≡ all rowText (entriesOf (take (i + 1) ks) (take (i + 1) vs))
       rows-then =
           let one : take (i + 1) ks ≡ take i ks ++ (getD ks i 0 ∷ []) = ap (λ (n : ℕ). take n ks) (add-one i) ∙ take-suc ks i 0 (omega (arith, p .columns .same, h)) in
@@ -115,6 +116,7 @@ module _ {ks vs before : List ℕ} {start at : ℕ} {out : List ℕ} {i : ℕ} (
           ∙ ap (all rowText) (entries-more (take i ks) (take i vs) (getD ks i 0) (getD vs i 0) front-long)
           ∙ all-append rowText (entriesOf (take i ks) (take i vs)) (entryOf (getD ks i 0) (getD vs i 0) ∷ [])
           ∙ ap (λ (l : List ℕ). all rowText (entriesOf (take i ks) (take i vs)) ++ l) (append-nil row))
+
       more : RowsPut (take (i + 1) ks) (take (i + 1) vs) before start end after
       more base text g l =
           let long = length-take-le i vs (omega (arith, h)) in

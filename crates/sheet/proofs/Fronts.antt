@@ -147,6 +147,7 @@ row-number text r e = by (labelIn 0 fields text) refl e
         on : (b : Bool) → cond b (some (row k (x .value) (n + x .count + 2))) none ≡ some r → r .number ≡ k
         on true z = let s : row k (x .value) (n + x .count + 2) ≡ r = cc in ap (λ (y : Row). y .number) (sym s)
         on false z = let w : _≡_ {A = ℕ} 0 1 = cc in absurd (omega arith)
+
     by : (o : Option ℕ) → labelIn 0 fields text ≡ o → valued o text ≡ some r → r .number < 72
     by none q z = let w : _≡_ {A = ℕ} 0 1 = cc in absurd (omega arith)
     by (some k) q z =

@@ -85,7 +85,7 @@ pub record Gathered (text : List ℕ) (at n : ℕ) (ks vs : List ℕ) : Type 0 w
   pub known : Below 72 (take n ks)
   pub goes : sheetIn text ≡ behind (entriesOf (take n ks) (take n vs)) (rowsIn (830 - n) n (drop at text))
 
-length-heading : length heading ≡ 21
+pub length-heading : length heading ≡ 21
 unfolding heading
 length-heading = refl
 

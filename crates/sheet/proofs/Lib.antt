@@ -4,3 +4,5 @@ pub mod Texts
 pub mod Fronts
 pub mod Columns
 pub mod Gathering
+pub mod Judgement
+pub mod Making

@@ -76,7 +76,14 @@ fn value_at(text: &[u8], at: usize, k: usize) -> Number
 // ---- put
 
 // Puts the row of field k with a value into out from at on, and gives where it ends.
-pub(crate) fn put_row(labels: &[u8], starts: &[u16], out: &mut [u8], at: usize, k: usize, v: u64) -> usize
+pub(crate) fn put_row(
+    labels: &[u8],
+    starts: &[u16],
+    out: &mut [u8],
+    at: usize,
+    k: usize,
+    v: u64,
+) -> usize
     requires { ⌜ Tables (now labels) (now starts) × (k < 72) ⌝ }
     ensures { λ r. ⌜ RowPut k v (now (out .entry)) at r (now (out .exit)) ⌝ }
 {

@@ -210,7 +210,7 @@ accepted-tiled p s n es h =
 -- ---- what the lent run then holds
 
 -- a field has a bit at least, so there are no more values than bits
-values-bits : (es : List Entry) → length (values es) ≤ length (bits es)
+pub values-bits : (es : List Entry) → length (values es) ≤ length (bits es)
 unfolding bitsIn valuesIn
 values-bits [] = omega arith
 values-bits (e ∷ es) =

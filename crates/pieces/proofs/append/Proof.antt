@@ -18,7 +18,6 @@ Inv-loop out₀ at piece i₀ out i = (i ≤ length piece) × (length out ≡ le
 abbrev μ-loop : tie.MeasureT-loop
 μ-loop out₀ at piece i₀ out i = length piece - i
 
-
 returns : tie.Need-returns Inv-loop μ-loop
 returns c = put-nothing (now (c .before .args .out)) (c .before .args .at) (now (c .before .args .piece)) (omega arith)
 
@@ -33,8 +32,8 @@ loop-again c = (
   omega arith,
   simp length-set (c .before .before .loop .inv .1),
   ap (λ (l : List ℕ). set l (c .before .before .before .before .before .args .at + c .before .before .loop .i) (getD (now (c .before .before .before .before .before .args .piece)) (c .before .before .loop .i) 0)) (c .before .before .loop .inv .2)
-  ∙ paste-suc (now (c .before .before .before .before .before .args .out)) (c .before .before .before .before .before .args .at) (now (c .before .before .before .before .before .args .piece)) (c .before .before .loop .i) 0 (omega arith) (omega arith)
-  ∙ ap (paste (now (c .before .before .before .before .before .args .out)) (c .before .before .before .before .before .args .at) (now (c .before .before .before .before .before .args .piece))) (sym (add-one (c .before .before .loop .i))),
+      ∙ paste-suc (now (c .before .before .before .before .before .args .out)) (c .before .before .before .before .before .args .at) (now (c .before .before .before .before .before .args .piece)) (c .before .before .loop .i) 0 (omega arith) (omega arith)
+      ∙ ap (paste (now (c .before .before .before .before .before .args .out)) (c .before .before .before .before .before .args .at) (now (c .before .before .before .before .before .args .piece))) (sym (add-one (c .before .before .loop .i))),
 )
 
 same-length : tie.Need-same-length Inv-loop μ-loop

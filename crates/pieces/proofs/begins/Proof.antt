@@ -16,7 +16,6 @@ Inv-loop text at piece j₀ i₀ j i = (i ≤ length piece) × (begins piece (dr
 abbrev μ-loop : tie.MeasureT-loop
 μ-loop text at piece j₀ i₀ j i = length piece - i
 
-
 loop-holds : tie.Need-loop-holds Inv-loop μ-loop
 loop-holds c = (omega arith, refl)
 

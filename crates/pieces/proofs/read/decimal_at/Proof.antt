@@ -8,7 +8,6 @@ use Rattle.pieces.proofs.Loops.{at-end, at-zero, at-other, at-digits}
 use Rattle.pieces.proofs.read.decimal_at.Statement.{statement}
 use Rattle.pieces.proofs.read.decimal_at.Tie as tie
 
-
 returns : tie.Need-returns
 returns c = sym (at-end (now (c .before .before .args .text)) (c .before .before .args .at) (c .if1 .taken))
 

@@ -20,7 +20,6 @@ Inv-loop text at v₀ i₀ v i = Reading text at v i
 abbrev μ-loop : tie.MeasureT-loop
 μ-loop text at v₀ i₀ v i = length text - i
 
-
 loop-holds : tie.Need-loop-holds Inv-loop μ-loop
 loop-holds c = reading-first (now (c .before .args .text)) (c .before .args .at) (c .before .pre)
 

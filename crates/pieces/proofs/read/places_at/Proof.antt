@@ -18,7 +18,6 @@ Inv-loop text at v₀ i₀ k₀ v i k = Reading text at v i k
 abbrev μ-loop : tie.MeasureT-loop
 μ-loop text at v₀ i₀ k₀ v i k = 16 - k
 
-
 loop-holds : tie.Need-loop-holds Inv-loop μ-loop
 loop-holds c = reading-first (now (c .before .args .text)) (c .before .args .at)
 

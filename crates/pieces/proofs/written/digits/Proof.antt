@@ -14,7 +14,6 @@ Inv-loop v d₀ n₀ i₀ d n i = Putting v d n i
 abbrev μ-loop : tie.MeasureT-loop
 μ-loop v d₀ n₀ i₀ d n i = i
 
-
 loop-holds : tie.Need-loop-holds Inv-loop μ-loop
 loop-holds c = putting-first _ _ (c .pre) (omega arith)
 

@@ -4,7 +4,6 @@ use borrow.Author.Tests.{le-leb, lt-leb}
 use Rattle.pieces.proofs.written.letter.Statement.{statement}
 use Rattle.pieces.proofs.written.letter.Tie as tie
 
-
 returns : tie.Need-returns
 returns c = simp (lt-leb _ 9 (c .if1 .taken))
 

@@ -19,7 +19,6 @@ Inv-loop text fields₀ values₀ labels starts at₀ n₀ fields values at n = 
 abbrev μ-loop : tie.MeasureT-loop
 μ-loop text fields₀ values₀ labels starts at₀ n₀ fields values at n = 830 - n
 
-
 slice-aggregate-begins : tie.Need-slice-aggregate-begins Inv-loop μ-loop
 slice-aggregate-begins c = search needs
 

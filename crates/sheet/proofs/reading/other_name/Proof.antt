@@ -16,7 +16,6 @@ Inv-loop fields due i₀ i = (i ≤ length fields) × (otherName 0 fields due �
 abbrev μ-loop : tie.MeasureT-loop
 μ-loop fields due i₀ i = length fields - i
 
-
 loop-holds : tie.Need-loop-holds Inv-loop μ-loop
 loop-holds c = (omega arith, refl)
 

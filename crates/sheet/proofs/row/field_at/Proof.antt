@@ -19,7 +19,6 @@ Inv-loop labels starts text at k₀ k = Sought (drop at text) k
 abbrev μ-loop : tie.MeasureT-loop
 μ-loop labels starts text at k₀ k = 72 - k
 
-
 loop-holds : tie.Need-loop-holds Inv-loop μ-loop
 loop-holds c = (omega arith, refl)
 

@@ -14,7 +14,6 @@ use Rattle.sheet.proofs.Fronts.{begins-fits, below, size, row-nameless,
 use Rattle.sheet.proofs.row.row_at.Statement.{statement}
 use Rattle.sheet.proofs.row.row_at.Tie as tie
 
-
 field-at-requires : tie.Need-field-at-requires
 field-at-requires c κs = c .before .before .before .pre
 

@@ -1,0 +1,131 @@
+-- What import answers once the rows are read, by the tests that it makes: the writer's, then the names. Assumes nothing.
+use mathlib.Core.Path.{_≡_, refl, sym, ap, _∙_}
+use mathlib.Core.Bool.{Bool, true, false, cond}
+use mathlib.Core.List.{List, [], _∷_, _++_}
+use mathlib.Core.Option.{Option, some, none}
+use Prim.Native.Nat.{ℕ, _≤_, _<_}
+use native.Mathlib.Omega.{arith}
+use borrow.Author.Tests.{le-leb, lt-leb, eq-eqb, ne-eqb}
+use lib.Dec.{eqb}
+use lib.ListN.{length, take, drop}
+use lib.Seq.{take-at}
+use Rattle.format.specs.Rules.{paper}
+use Rattle.format.specs.Telegrams.{Entry, Result, Telegram, bitCount, values, write}
+use Rattle.format.specs.Telegrams.Result.{accepted, refused}
+use Rattle.format.specs.declared.Kind.the-variants.{Room}
+use Rattle.format.specs.declared.Refusal.{Refusal}
+use Rattle.format.specs.declared.Answer.{Answer}
+use Rattle.format.specs.declared.Answer.the-variants.{Accepted, Refused}
+use Rattle.laws.proofs.Demand2.{write-is}
+use Rattle.states.specs.Labels.{numbers, labelInto, numbersOver, Label}
+use Rattle.states.specs.Writer.{writeInto, Write}
+use Rattle.states.proofs.Checking.{was-accepted, was-refused}
+use Rattle.states.specs.Writer as writer
+use Rattle.sheet.specs.Reading.{Rows}
+use Rattle.sheet.specs.Reading.Rows.{rows, bad}
+use Rattle.sheet.specs.Sheets.{Imported, otherName, named, judged, onSheet, imported, importInto, sizeOf, bytesOver, Import}
+use Rattle.sheet.specs.Sheets.Imported.{taken, refusedBy, refusedAt}
+use Rattle.sheet.specs.Steps.{entriesOf, Columns, rowsRead, judgement, Judged, Other, Collected}
+use Rattle.sheet.specs.declared.Reply.{Reply}
+use Rattle.sheet.specs.declared.Reply.the-variants as reply
+use Rattle.sheet.specs.declared.reading.Rows.the-variants as counted
+use Rattle.sheet.specs.declared.reading.Rows as reading
+use Rattle.sheet.proofs.Columns.{values-of, numbers-of, same-length}
+
+-- ---- what `label` finds
+
+module _ {vs due after : List ℕ} {a : Answer} (l : Label paper vs due a after) (h : 830 ≤ length due) where
+  into : labelInto paper vs (length due) ≡ write paper vs
+  unfolding labelInto
+  into = rw (le-leb 830 (length due) h)
+
+  label-answers : a ≡ writer.sizeOf (write paper vs)
+  label-answers = l .answers ∙ ap writer.sizeOf into
+
+  pub label-refused : {x : Refusal} → a ≡ Refused x → write paper vs ≡ refused x
+  label-refused {x} q = was-refused bitCount (write paper vs) a x label-answers q
+
+  -- the telegram with these values, and its fields in front
+  pub record Named (n : ℕ) : Type 0 where
+    pub entries : List Entry
+    pub is : write paper vs ≡ accepted entries
+    pub telegram : Telegram paper entries
+    pub same : vs ≡ values entries
+    pub size : n ≡ bitCount entries
+    pub names : take (length vs) after ≡ numbers entries
+
+  pub named-as : (es : List Entry) → write paper vs ≡ accepted es → take (length vs) after ≡ numbers es
+  named-as es e =
+      let t = write-is paper vs es e in
+      let long : length (numbers es) ≡ length vs = same-length es ∙ ap length (sym (t .1)) in
+      ap (take (length vs)) (l .contents ∙ ap (λ (r : Result). numbersOver r due) (into ∙ e))
+      ∙ take-at (numbers es) (drop (length (numbers es)) due) (length vs) long
+
+  pub label-accepted : {n : ℕ} → a ≡ Accepted n → Named n
+  label-accepted {n} q =
+      let w = was-accepted bitCount (write paper vs) a n label-answers q in
+      let t = write-is paper vs (w .entries) (w .is) in
+      record { entries = w .entries; is = w .is; telegram = t .0; same = t .1; size = w .counted; names = named-as (w .entries) (w .is) }
+
+-- ---- after the rows
+
+module _ (ks vs before : List ℕ) where
+  judged-as : (j : Imported) → judgement ks vs ≡ j → Judged ks vs before (sizeOf j) (bytesOver j before)
+  judged-as j e = record { answers = ap sizeOf (sym e); contents = ap (λ (x : Imported). bytesOver x before) (sym e) }
+
+  pub judges-refused : {x : Refusal} → write paper vs ≡ refused x → Judged ks vs before (reply.Refused x) before
+  judges-refused {x} e = judged-as (refusedBy x) (ap (judged (entriesOf ks vs)) e)
+
+  module _ (c : Columns ks vs) (es : List Entry) (e : write paper vs ≡ accepted es) (r : ℕ) (o : Other ks (numbers es) r) where
+    first : judgement ks vs ≡ named (cond (eqb r 0) none (some r)) es
+    first =
+        ap (judged (entriesOf ks vs)) e
+        ∙ ap (λ (l : List ℕ). named (otherName 0 l (numbers es)) es) (numbers-of ks vs (c .same) (c .known))
+        ∙ ap (λ (x : Option ℕ). named x es) o
+
+    pub judges-named : (r ≡ 0 → ⊥) → Judged ks vs before (reply.Row r) before
+    judges-named n = judged-as (refusedAt r) (first ∙ rw (ne-eqb r 0 n))
+
+    written : 104 ≤ length before → writeInto paper vs (length before) ≡ accepted es
+    unfolding writeInto
+    written h = rw (le-leb 104 (length before) h) e
+
+    -- the telegram, written
+    pub judges-taken : r ≡ 0 → 104 ≤ length before → {b : Answer} {after : List ℕ} → Write paper vs before b after → {n : ℕ} → n ≡ bitCount es
+        → Judged ks vs before (reply.Done n) after
+    judges-taken z h {b} {after} w {n} size =
+        let taken-is : judgement ks vs ≡ taken es = first ∙ rw (eq-eqb r 0 z) in
+        record {
+          answers = ap reply.Done size ∙ ap sizeOf (sym taken-is);
+          contents =
+              w .contents ∙ ap (λ (x : Result). writer.bytesOver x before) (written h) ∙ ap (λ (x : Imported). bytesOver x before) (sym taken-is);
+        }
+
+-- ---- import
+
+module _ (text before : List ℕ) where
+  pub imports-roomless : length before < 104 → Import paper text before (reply.Refused (record { kind = Room; place = 0 })) before
+  unfolding importInto
+  imports-roomless h = record { answers = rw (lt-leb 104 (length before) h); contents = rw (lt-leb 104 (length before) h) }
+
+  module _ (h : 104 ≤ length before) {r : reading.Rows} {ks vs : List ℕ} (c : Collected text r ks vs) where
+    import-is : importInto paper text (length before) ≡ onSheet paper (rowsRead r ks vs)
+    unfolding importInto imported
+    import-is = rw (le-leb 104 (length before) h) (ap (onSheet paper) (c .is))
+
+    pub imports-bad : {k : ℕ} → r ≡ counted.Bad k → Import paper text before (reply.Row k) before
+    imports-bad {k} e = record { answers = rw import-is (rw e); contents = rw import-is (rw e) }
+
+    module _ {n : ℕ} (e : r ≡ counted.Read n) (few : n ≤ 830) (same : length (take n ks) ≡ length (take n vs)) where
+      here : importInto paper text (length before) ≡ judgement (take n ks) (take n vs)
+      here =
+          import-is
+          ∙ ap (λ (x : reading.Rows). onSheet paper (rowsRead x ks vs)) e
+          ∙ ap (λ (l : List ℕ). judged (entriesOf (take n ks) (take n vs)) (write paper l)) (values-of (take n ks) (take n vs) same)
+
+      pub imports-judged : {a : Reply} {after : List ℕ} → Judged (take n ks) (take n vs) before a after → Import paper text before a after
+      imports-judged j =
+          record {
+            answers = j .answers ∙ ap sizeOf (sym here);
+            contents = j .contents ∙ ap (λ (x : Imported). bytesOver x before) (sym here);
+          }

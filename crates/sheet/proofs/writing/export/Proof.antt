@@ -1,0 +1,59 @@
+-- `sheet::writing::export` meets its contract: room, then the reader's answer; only what it accepted is written. Assumes nothing.
+use mathlib.Core.Path.{sym}
+use native.Mathlib.Omega.{arith}
+use borrow.Author.Needs.{needs}
+use denote.Ref.{now}
+use lib.Seq.{length-take-le}
+use Rattle.sheet.proofs.Making.{exports-roomless, exports-refused, few-read, listing, exports-written}
+use Rattle.sheet.proofs.writing.export.Statement.{statement}
+use Rattle.sheet.proofs.writing.export.Tie as tie
+
+returns : tie.Need-returns
+returns c = exports-roomless _ _ _ (c .if1 .taken)
+
+slice-aggregate-read : tie.Need-slice-aggregate-read
+slice-aggregate-read c = search needs
+
+enum-known-r : tie.Need-enum-known-r
+enum-known-r c = search needs
+
+enum-known-count : tie.Need-enum-known-count
+enum-known-count c = search needs
+
+array-share-prefix-values : tie.Need-array-share-prefix-values
+array-share-prefix-values c = omega (arith, few-read (now (c .before .before .before .before .before .before .before .before .before .args .s)) (c .before .before .before .before .before .before .before .before .before .args .n) (now (c .before .before .before .before .before .before .before .before .before .args .text)) (c .before .before .before .before .before .before .if1 .left) (c .before .before .before .before .read .ensures) (omega arith) (c .before .count .given .1))
+
+slice-aggregate-sheet : tie.Need-slice-aggregate-sheet
+slice-aggregate-sheet c =
+    sym (length-take-le _ _ (omega (arith, few-read (now (c .before .before .before .before .before .before .before .before .before .before .args .s)) (c .before .before .before .before .before .before .before .before .before .before .args .n) (now (c .before .before .before .before .before .before .before .before .before .before .args .text)) (c .before .before .before .before .before .before .before .if1 .left) (c .before .before .before .before .before .read .ensures) (omega arith) (c .before .before .count .given .1))))
+
+sheet-requires : tie.Need-sheet-requires
+sheet-requires c κs = listing _ _ _ (c .before .before .before .before .before .before .before .before .if1 .left) (c .before .before .before .before .before .before .read .ensures) (omega arith) (c .before .before .before .count .given .1)
+
+returns-2 : tie.Need-returns-2
+returns-2 c = exports-refused _ _ _ (c .before .before .before .before .before .before .if1 .left) (c .before .before .before .before .read .ensures) (omega arith) (c .before .r .given .1)
+
+same-length : tie.Need-same-length
+same-length c = search needs
+
+returns-3 : tie.Need-returns-3
+returns-3 c = exports-written _ _ _ (c .before .before .before .before .before .before .before .before .before .before .before .if1 .left) (c .before .before .before .before .before .before .before .before .before .read .ensures) (omega arith) (c .before .before .before .before .before .before .count .given .1) (c .before .before .sheet .ensures)
+
+read-requires : tie.Need-read-requires
+read-requires c κs = search needs
+
+pub export-spec : {M : Type 1} → statement M
+export-spec =
+    tie.close
+    (tie.spec
+    returns
+    slice-aggregate-read
+    read-requires
+    enum-known-r
+    enum-known-count
+    array-share-prefix-values
+    slice-aggregate-sheet
+    sheet-requires
+    returns-2
+    same-length
+    returns-3)
