@@ -31,7 +31,7 @@ use Rattle.again.specs.Again.{againOf}
 use Rattle.again.specs.Normals.{againIn, Renormalised, same, alike, SaysSame}
 use Rattle.again.specs.declared.normals.Alike.{Alike}
 use Rattle.again.specs.declared.normals.Alike.the-variants.{Same, Other, First, Second}
-use Rattle.again.proofs.Twice.{sent, bytes-long, sound}
+use Rattle.states.proofs.Accepting.{sent, bytes-long, sound}
 
 -- ---- lists compared
 

@@ -1,15 +1,14 @@
 -- Reading and then writing, and writing and then reading, by what each promises alone: the laws that reading and writing are inverse, and
 -- that bytes with clear unused bits are the bytes of their bits. For any terms. Assumes nothing.
 use mathlib.Core.Bool.{Bool, true, false, cond}
-use mathlib.Core.List.{List, [], _∷_, _++_}
+use mathlib.Core.List.{List, _++_}
 use mathlib.Core.Path.{_≡_, refl, sym, ap, _∙_}
-use Prim.Native.Nat.{ℕ, zero, suc, _-_, _*_, _≤_}
+use Prim.Native.Nat.{ℕ, _≤_}
 use native.Mathlib.Omega.{arith}
 use lib.Dec.{leb}
-use lib.ListN.{length, take, drop, replicate, length-take, length-drop, length-append, take-append-drop}
-use lib.Seq.{take-at, drop-at, length-take-le}
-use Rattle.bits.specs.Bits.{bitsOf, bytesOf, bytesFor, Below}
-use Rattle.bits.proofs.Bytes.{length-bitsOf, length-bytesOf, bitsOf-bytesOf, take-bitsOf-bytesOf, bytes-are}
+use lib.ListN.{length, take, drop, length-take, length-append}
+use lib.Seq.{take-at}
+use Rattle.bits.specs.Bits.{bytesOf, bytesFor, Below}
 use Rattle.format.specs.Rules.{Terms}
 use Rattle.format.specs.Telegrams.{Entry, Result, Telegram, bits, values, bitCount, write}
 use Rattle.format.specs.Telegrams.Result.{accepted, refused}
@@ -17,64 +16,13 @@ use Rattle.format.specs.declared.Kind.the-variants.{Room}
 use Rattle.format.specs.declared.Refusal.{Refusal}
 use Rattle.format.specs.declared.Answer.{Answer}
 use Rattle.format.specs.declared.Answer.the-variants.{Accepted, Refused}
-use Rattle.laws.proofs.Demand2.{length-bits, below-bits, room, writes, write-is}
-use Rattle.laws.proofs.Tile.{tiled}
+use Rattle.laws.proofs.Demand2.{length-bits, writes, write-is}
 use Rattle.states.specs.Reader.{atOnce, checked, readInto, answerOf, valuesOver, Read}
 use Rattle.states.specs.Writer.{writeInto, sizeOf, bytesOver, Write}
-use Rattle.states.proofs.Answers.{sized-is, clear-is, Sound, check-judges, read-judges, answer-accepted, answer-refused, Stored, accepted-stores}
+use Rattle.states.proofs.Answers.{check-judges, read-judges, answer-accepted, answer-refused, Stored, accepted-stores}
+use Rattle.states.proofs.Accepting.{sent, same-bytes, bytes-long, checks}
 use Rattle.states.proofs.Checking.{AcceptedAs, was-accepted, was-refused}
 use Rattle.again.specs.Again.{againOf, againOver, Rewritten, Reread}
-
--- ---- bits that are all 0
-
-zeros : (xs : List ℕ) → Below 1 xs → xs ≡ replicate (length xs) 0
-zeros [] h = refl
-zeros (zero ∷ xs) h = ap (λ (l : List ℕ). 0 ∷ l) (zeros xs (h .1))
-zeros (suc x ∷ xs) h = let z = h .0 in absurd (omega arith)
-
-zeros-below : (m : ℕ) → Below 1 (replicate m 0)
-zeros-below zero = tt
-zeros-below (suc m) = (omega arith, zeros-below m)
-
--- ---- the bytes of a telegram
-
--- bytes that are accepted are the bytes of their entries
-module _ (p : Terms) (s : List ℕ) (n : ℕ) (es : List Entry) (a : Sound p s n es) where
-  pub sent : length (bits es) ≡ n
-  sent =
-      let z = sized-is s n .0 (a .size) in
-      sym (ap length (a .is)) ∙ length-take-le n (bitsOf s) (rw (length-bitsOf s) (omega arith))
-
-  same-bytes : Below 256 s → bytesOf (bits es) ≡ s
-  same-bytes h =
-      let z = sized-is s n .0 (a .size) in
-      let unused : drop n (bitsOf s) ≡ replicate (length (drop n (bitsOf s))) 0 = zeros (drop n (bitsOf s)) (clear-is s n .0 (a .padding)) in
-      let e = sent in
-      let long : length (drop n (bitsOf s)) ≡ 8 * bytesFor (length (bits es)) - length (bits es) =
-      rw (length-drop n (bitsOf s), length-bitsOf s, sent, z .2) in
-      sym (bytes-are s (bits es) h (below-bits es) (sym (take-append-drop n (bitsOf s)) ∙ rw (a .is, unused, long)))
-
--- and the bytes of a telegram are accepted
-module _ (p : Terms) (es : List Entry) (t : Telegram p es) (n : ℕ) (e : n ≡ bitCount es) where
-  long : length (bits es) ≡ n
-  long = length-bits es ∙ sym e
-
-  most : n ≤ 830
-  most = let r = room p t in let l = long in omega arith
-
-  pub bytes-long : length (bytesOf (bits es)) ≡ bytesFor n
-  bytes-long = length-bytesOf (bits es) ∙ ap bytesFor long
-
-  pub sound : Sound p (bytesOf (bits es)) n es
-  sound =
-      let l = long in
-      let i = tiled p t .all in
-      record {
-        size = sized-is (bytesOf (bits es)) n .1 (omega arith, most, bytes-long);
-        padding = clear-is (bytesOf (bits es)) n .1 (rw (bitsOf-bytesOf (bits es) (below-bits es), drop-at (bits es) (replicate (8 * bytesFor (length (bits es)) - length (bits es)) 0) n long) (zeros-below (8 * bytesFor (length (bits es)) - length (bits es))));
-        telegram = t;
-        is = rw (← long) (take-bitsOf-bytesOf (bits es) (below-bits es));
-      }
 
 -- ---- the second of the two, given a telegram
 
@@ -94,13 +42,13 @@ module _ (p : Terms) {es : List Entry} (t : Telegram p es) where
 
   -- read
   module _ (n : ℕ) (e : n ≡ bitCount es) (run : List ℕ) where
-    checks : checked p (bytesOf (bits es)) n ≡ accepted es
-    checks = check-judges p (bytesOf (bits es)) n .accepts es .1 (sound p es t n e)
+    told : checked p (bytesOf (bits es)) n ≡ accepted es
+    told = checks p es t n e
 
     read-by : (c : Bool)
         → (answerOf (cond c (checked p (bytesOf (bits es)) n) (atOnce Room)) ≡ cond c (Accepted (length (values es))) (Refused (record { kind = Room; place = 0 })))
         × (valuesOver (cond c (checked p (bytesOf (bits es)) n) (atOnce Room)) run ≡ cond c (values es ++ drop (length (values es)) run) run)
-    read-by true = (rw checks, rw checks)
+    read-by true = (rw told, rw told)
     read-by false = (refl, refl)
 
     then-read : (answerOf (readInto p (bytesOf (bits es)) n (length run)) ≡ againOf (accepted es) 830 (length run) (length (values es)))

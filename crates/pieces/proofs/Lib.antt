@@ -3,3 +3,4 @@ pub mod Starts
 pub mod Decimals
 pub mod Loops
 pub mod Sixteens
+pub mod Once

@@ -32,7 +32,7 @@ begins-fits piece text at e h =
 -- ---- which label
 
 module _ (text : List ℕ) where
-  label-next : (k : ℕ) → k < 72
+  pub label-next : (k : ℕ) → k < 72
       → labelIn k (drop k fields) text ≡ cond (begins (labelText (fieldOf k)) text) (some k) (labelIn (k + 1) (drop (k + 1) fields) text)
   label-next k h =
       ap (λ (l : List _). labelIn k l text) (drop-cons fields k _ (rw length-fields h))

@@ -50,7 +50,7 @@ module _ (text : List ℕ) (at n : ℕ) where
     unfolding rowsIn
     rows-full = rw (drop-cons text at 0 h)
 
-    rows-row : (left : ℕ) → rowsIn (suc left) n (drop at text) ≡ onRow (rowIn (drop at text)) n (λ k. rowsIn left (suc n) (drop k (drop at text)))
+    pub rows-row : (left : ℕ) → rowsIn (suc left) n (drop at text) ≡ onRow (rowIn (drop at text)) n (λ k. rowsIn left (suc n) (drop k (drop at text)))
     unfolding rowsIn
     rows-row left = rw (drop-cons text at 0 h)
 

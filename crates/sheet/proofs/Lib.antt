@@ -6,3 +6,9 @@ pub mod Columns
 pub mod Gathering
 pub mod Judgement
 pub mod Making
+pub mod Distinct
+pub mod Readable
+pub mod Written
+pub mod Taken
+pub mod Back
+pub mod Once

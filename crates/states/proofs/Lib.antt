@@ -33,6 +33,7 @@ pub mod Checking
 pub mod Writing
 pub mod Normalising
 pub mod Answers
+pub mod Accepting
 pub mod Once
 pub mod Leaves
 pub mod Cheats
