@@ -11,4 +11,5 @@ pub mod Readable
 pub mod Written
 pub mod Taken
 pub mod Back
+pub mod ThereAndBack
 pub mod Once
