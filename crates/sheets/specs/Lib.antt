@@ -1,0 +1,3 @@
+-- The program's answers as text.
+pub mod Printed
+pub mod Examples

@@ -1,0 +1,79 @@
+// Telegrams as data sheets and back: `out` prints the sheet of the telegram that standard input has as a line of characters 0 and 1, `in`
+// the line of the telegram whose sheet standard input has. What is refused is printed by its number and its place, or row.
+ghost use mathlib.Core.Path.{_≡_};
+ghost use Prim.Native.Nat.{_≤_};
+ghost use lib.ListN.{length};
+
+mod answer;
+mod line;
+
+use crate::answer::from_line;
+use crate::answer::from_sheet;
+use libc::STDIN_FILENO;
+use libc::STDOUT_FILENO;
+
+// What the arguments ask for.
+enum Way {
+    Out,
+    In,
+    Other,
+}
+
+fn main() {
+    match asked() {
+        Way::Out => out(),
+        Way::In => take_in(),
+        Way::Other => usage(),
+    }
+}
+
+// The program's name is an argument too. A word of more than three characters, which is neither of the two, finds no room and is taken as
+// an empty one.
+fn asked() -> Way {
+    if os::arg_count() != 2 {
+        return Way::Other;
+    }
+    let mut space = [0u8; 3];
+    let n = os::arg(1, &mut space);
+    meant(&space[..n])
+}
+
+fn meant(word: &[u8]) -> Way {
+    if is(word, b"out") {
+        return Way::Out;
+    }
+    if is(word, b"in") {
+        return Way::In;
+    }
+    Way::Other
+}
+
+fn is(word: &[u8], other: &[u8]) -> bool {
+    if word.len() != other.len() {
+        return false;
+    }
+    pieces::begins(word, 0, other)
+}
+
+// No telegram has more than 830 bits. An input of 832 bytes or more has at least 831 characters before a newline at its end, and is
+// refused for that whatever they are: so no more is read.
+fn out() {
+    let mut input = [0u8; 832];
+    let n = io::read_full(STDIN_FILENO, &mut input);
+    let mut text = io::large_buffer();
+    let end = from_line(&input[..n], &mut text);
+    io::write_all(STDOUT_FILENO, &text[..end]);
+}
+
+// No row takes more than 43 bytes: the first that is none, or the 831st, begins within 35,712 bytes, and what follows it does not count.
+fn take_in() {
+    let mut input = io::large_buffer();
+    let n = io::read_full(STDIN_FILENO, &mut input);
+    let mut text = [0u8; 1024];
+    let end = from_sheet(&input[..n], &mut text);
+    io::write_all(STDOUT_FILENO, &text[..end]);
+}
+
+fn usage() {
+    io::write_all(STDOUT_FILENO, b"usage: sheets out | in\n");
+}
