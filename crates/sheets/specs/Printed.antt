@@ -12,7 +12,8 @@ use Rattle.format.specs.declared.Kind.the-variants.{Size}
 use Rattle.packing.specs.Packing.{binary, bitsIn}
 use Rattle.pieces.specs.Numbers.{decimal}
 use Rattle.sheet.specs.Rows.{textOf, sheetText}
-use Rattle.sheet.specs.Sheets.{Imported, taken, refusedBy, refusedAt, numberOf, valueOf, imported}
+use Rattle.sheet.specs.Sheets.{Imported, numberOf, valueOf, imported}
+use Rattle.sheet.specs.Sheets.Imported.{taken, refusedBy, refusedAt}
 use Rattle.sheet.specs.declared.Reply.{Reply}
 use Rattle.sheet.specs.declared.Reply.the-variants.{Refused, Row}
 use Rattle.states.specs.Reader.{atOnce, checked}

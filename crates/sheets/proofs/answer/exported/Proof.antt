@@ -1,72 +1,69 @@
+-- `sheets::answer::exported` meets its contract: one law for each answer of packing. Assumes nothing.
+use mathlib.Core.Path.{refl, sym}
+use denote.Ref.{now}
+use lib.Seq.{length-take-le}
 use borrow.Author.Needs.{needs}
+use Rattle.sheets.specs.Printed.{told}
+use Rattle.sheets.proofs.Lines.{told-bits, prefix-fits, told-other, told-roomless}
+use Rattle.sheets.proofs.Texts.{export-told, untold}
 use Rattle.sheets.proofs.answer.exported.Statement.{statement}
 use Rattle.sheets.proofs.answer.exported.Tie as tie
-use Rattle.sheets.proofs.answer.exported.Reads as reads
-use Rattle.sheets.proofs.answer.exported.Lts as lts
-use Rattle.bits.proofs.bytes_for.Reads as bytes-for-reads
-use Rattle.packing.proofs.pack.Reads as pack-reads
-use Rattle.sheet.proofs.export.Reads as export-reads
-use Rattle.sheets.proofs.answer.no_telegram.Reads as no-telegram-reads
 
--- src/answer.rt:54:31
 slice-aggregate-pack : tie.Need-slice-aggregate-pack
 slice-aggregate-pack c = search needs
 
--- src/answer.rt:54:11
 pack-requires : tie.Need-pack-requires
 pack-requires c κs = search needs
 
--- src/answer.rt:55:22
 enum-known-n : tie.Need-enum-known-n
 enum-known-n c = search needs
 
--- src/answer.rt:56:17
 bytes-for-requires : tie.Need-bytes-for-requires
 bytes-for-requires c κs = search needs
 
--- src/answer.rt:57:27
 array-share-prefix-s : tie.Need-array-share-prefix-s
-array-share-prefix-s c = ?
+array-share-prefix-s c =
+    prefix-fits (now (c .before .before .before .before .before .before .before .before .before .args .line)) _ (c .before .before .before .before .before .pack .result) _ (c .before .before .before .before .before .pack .ensures) _ (c .bytes-for .result) (c .before .before .n .given .1) (c .bytes-for .ensures)
 
--- src/answer.rt:57:27
 slice-aggregate-export : tie.Need-slice-aggregate-export
-slice-aggregate-export c = ?
+slice-aggregate-export c = sym (length-take-le _ _ (array-share-prefix-s (c .before)))
 
--- src/answer.rt:57:13
 export-requires : tie.Need-export-requires
-export-requires c κs = ?
+export-requires c κs = search needs
 
--- src/answer.rt:59:26
 enum-told : tie.Need-enum-told
 enum-told c = search needs
 
--- src/answer.rt:59:26
 no-telegram-requires : tie.Need-no-telegram-requires
 no-telegram-requires c κs = search needs
 
--- src/answer.rt:60:25
 enum-told-2 : tie.Need-enum-told-2
 enum-told-2 c = search needs
 
--- src/answer.rt:60:25
 no-telegram-requires-2 : tie.Need-no-telegram-requires-2
 no-telegram-requires-2 c κs = search needs
 
--- src/answer.rt:49:1
 same-length : tie.Need-same-length
 same-length c = search needs
 
--- src/answer.rt:49:1
 returns : tie.Need-returns
-returns c = ?
+returns c =
+    let line = now (c .before .before .before .before .before .before .before .before .before .before .before .before .before .before .args .line) in
+    export-told {before = now (c .before .before .before .before .before .before .before .before .before .before .before .before .before .before .args .out)} (told line) (c .before .before .before .before .before .before .before .before .before .before .before .before .before .before .pre)
+    (told-bits line _ (c .before .before .before .before .before .before .before .before .before .before .pack .result) _ (c .before .before .before .before .before .before .before .before .before .before .pack .ensures) _ (c .before .before .before .before .before .bytes-for .result) (c .before .before .before .before .before .before .before .n .given .1) (c .before .before .before .before .before .bytes-for .ensures))
+    (c .before .before .export .ensures)
 
--- src/answer.rt:49:1
 returns-2 : tie.Need-returns-2
-returns-2 c = ?
+returns-2 c =
+    let line = now (c .before .before .before .before .before .before .before .before .args .line) in
+    untold (told line) (now (c .before .before .before .before .before .before .before .before .args .out)) (c .no-telegram .ensures)
+    (told-other line _ (c .before .before .before .before .pack .result) _ (c .before .before .before .before .pack .ensures) (c .before .enum-told .given .1))
 
--- src/answer.rt:49:1
 returns-3 : tie.Need-returns-3
-returns-3 c = ?
+returns-3 c =
+    let line = now (c .before .before .before .before .before .before .before .before .args .line) in
+    untold (told line) (now (c .before .before .before .before .before .before .before .before .args .out)) (c .no-telegram2 .ensures)
+    (told-roomless line _ (c .before .before .before .before .pack .result) _ (c .before .before .before .before .pack .ensures) refl (c .before .enum-told2 .given .1))
 
 pub exported-spec : {M : Type 1} → statement M
 exported-spec =

@@ -1,67 +1,64 @@
+-- `sheets::answer::from_line` meets its contract: one law for each reply, and a reply of a row does not come. Assumes nothing.
+use mathlib.Core.Path.{sym}
+use native.Mathlib.Omega.{arith}
+use denote.Ref.{now}
+use lib.Seq.{length-take-le}
 use borrow.Author.Needs.{needs}
+use Rattle.sheets.proofs.Lines.{line-few}
+use Rattle.sheets.proofs.Texts.{out-done, out-refused, out-rowless}
 use Rattle.sheets.proofs.answer.from_line.Statement.{statement}
 use Rattle.sheets.proofs.answer.from_line.Tie as tie
-use Rattle.sheets.proofs.answer.from_line.Reads as reads
-use Rattle.sheets.proofs.answer.from_line.Lts as lts
-use Rattle.sheets.proofs.answer.exported.Reads as exported-reads
-use Rattle.sheets.proofs.answer.line_length.Reads as line-length-reads
-use Rattle.sheets.proofs.answer.refuse.Reads as refuse-reads
 
--- src/answer.rt:25:9
 line-length-requires : tie.Need-line-length-requires
 line-length-requires c κs = search needs
 
--- src/answer.rt:26:26
 slice-aggregate-exported : tie.Need-slice-aggregate-exported
-slice-aggregate-exported c = ?
+slice-aggregate-exported c =
+    let input = now (c .before .before .before .before .args .input) in
+    sym (length-take-le (c .before .line-length .result) input (omega (arith, line-few input, c .before .line-length .ensures)))
 
--- src/answer.rt:26:9
 exported-requires : tie.Need-exported-requires
 exported-requires c κs = search needs
 
--- src/answer.rt:28:21
 enum-known-reply : tie.Need-enum-known-reply
 enum-known-reply c = search needs
 
--- src/answer.rt:29:44
 enum-told : tie.Need-enum-told
 enum-told c = search needs
 
--- src/answer.rt:29:30
 refuse-requires : tie.Need-refuse-requires
 refuse-requires c κs = search needs
 
--- src/answer.rt:30:40
 enum-told-2 : tie.Need-enum-told-2
 enum-told-2 c = search needs
 
--- src/answer.rt:30:26
 refuse-requires-2 : tie.Need-refuse-requires-2
 refuse-requires-2 c κs = search needs
 
--- src/answer.rt:21:1
 same-length : tie.Need-same-length
 same-length c = search needs
 
--- src/answer.rt:21:1
 returns : tie.Need-returns
-returns c = ?
+returns c =
+    out-done (now (c .before .before .before .before .before .before .before .before .before .before .before .args .input)) _ _ (c .before .before .before .before .before .before .before .before .line-length .result) (c .before .before .before .before .before .exported .result) (c .before .before .before .before .before .before .before .before .line-length .ensures) (c .before .before .before .before .before .exported .ensures .0) (c .before .before .before .before .before .exported .ensures .1)
+    _ (c .before .reply .given .1)
 
--- src/answer.rt:21:1
 same-length-2 : tie.Need-same-length-2
 same-length-2 c = search needs
 
--- src/answer.rt:21:1
 returns-2 : tie.Need-returns-2
-returns-2 c = ?
+returns-2 c =
+    out-refused (now (c .before .before .before .before .before .before .before .before .before .before .before .before .before .before .args .input)) _ _ (c .before .before .before .before .before .before .before .before .before .before .before .line-length .result) (c .before .before .before .before .before .before .before .before .exported .result) (c .before .before .before .before .before .before .before .before .before .before .before .line-length .ensures) (c .before .before .before .before .before .before .before .before .exported .ensures .0) (c .before .before .before .before .before .before .before .before .exported .ensures .1)
+    _ _ _ (c .before .before .before .before .enum-told .given .1) (c .before .before .refuse .ensures)
 
--- src/answer.rt:21:1
 same-length-3 : tie.Need-same-length-3
 same-length-3 c = search needs
 
--- src/answer.rt:21:1
 returns-3 : tie.Need-returns-3
-returns-3 c = ?
+returns-3 c =
+    absurd
+    (out-rowless (now (c .before .before .before .before .before .before .before .before .before .before .before .before .before .before .args .input)) _ _ (c .before .before .before .before .before .before .before .before .before .before .before .line-length .result) (c .before .before .before .before .before .before .before .before .exported .result) (c .before .before .before .before .before .before .before .before .before .before .before .line-length .ensures) (c .before .before .before .before .before .before .before .before .exported .ensures .0) (c .before .before .before .before .before .before .before .before .exported .ensures .1)
+    _ (c .before .before .before .before .enum-told2 .given .1))
 
 pub from-line-spec : {M : Type 1} → statement M
 from-line-spec =

@@ -1,33 +1,37 @@
+-- `sheets::line::character` meets its contract: the field of one bit is there, and is that bit. Assumes nothing.
+use mathlib.Core.Path.{sym, ap, _∙_}
+use denote.Ref.{now}
 use borrow.Author.Needs.{needs}
+use Rattle.sheets.specs.Printed.{characterOf}
+use Rattle.sheets.proofs.Lines.{bit-there, bit-taken, character-one, character-zero}
 use Rattle.sheets.proofs.line.character.Statement.{statement}
 use Rattle.sheets.proofs.line.character.Tie as tie
-use Rattle.sheets.proofs.line.character.Reads as reads
-use Rattle.sheets.proofs.line.character.Lts as lts
-use Rattle.bits.proofs.Cursor.take.Reads as take-reads
 
--- src/line.rt:30:32
 take-requires : tie.Need-take-requires
 take-requires c κs = search needs
 
--- src/line.rt:30:22
 enum-known-bit : tie.Need-enum-known-bit
 enum-known-bit c = search needs
 
--- src/line.rt:31:9
 enum-told : tie.Need-enum-told
 enum-told c = search needs
 
--- src/line.rt:31:9
 returns : tie.Need-returns
-returns c = ?
+returns c =
+    let a = c .before .before .before .before .args in
+    absurd (bit-there (now (a .s)) (a .n) (a .at) (c .before .before .before .before .pre .0) (c .before .before .before .before .pre .1) (sym (c .before .before .take .ensures) ∙ c .enum-told .given .1))
 
--- src/line.rt:25:1
 returns-2 : tie.Need-returns-2
-returns-2 c = ?
+returns-2 c =
+    let a = c .before .before .before .before .before .before .args in
+    character-one _ (c .if1 .taken)
+    ∙ ap characterOf (bit-taken (now (a .s)) (a .n) (a .at) (c .before .before .before .before .before .before .pre .0) (c .before .before .before .before .before .before .pre .1) _ _ (sym (c .before .before .before .before .take .ensures) ∙ c .before .before .bit .given .1))
 
--- src/line.rt:25:1
 returns-3 : tie.Need-returns-3
-returns-3 c = ?
+returns-3 c =
+    let a = c .before .before .before .before .before .before .args in
+    character-zero _ (c .if1 .left)
+    ∙ ap characterOf (bit-taken (now (a .s)) (a .n) (a .at) (c .before .before .before .before .before .before .pre .0) (c .before .before .before .before .before .before .pre .1) _ _ (sym (c .before .before .before .before .take .ensures) ∙ c .before .before .bit .given .1))
 
 pub character-spec : {M : Type 1} → statement M
 character-spec =

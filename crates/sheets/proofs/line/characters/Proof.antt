@@ -1,46 +1,58 @@
+-- `sheets::line::characters` meets its contract. The loop's invariant: the first i bits stand in front as characters, and behind them what
+-- was there. The measure is how many bits are left. Assumes nothing.
+use mathlib.Core.Path.{_≡_, refl, ap, _∙_}
+use mathlib.Core.List.{_++_}
+use Prim.Native.Nat.{ℕ, _≤_, _-_}
+use native.Mathlib.Omega.{arith}
+use denote.Ref.{now}
+use lib.ListN.{length, take, drop, length-set}
+use Rattle.bits.specs.Bits.{bitsOf}
+use Rattle.bits.proofs.Bytes.{length-bitsOf}
+use Rattle.sheets.specs.Printed.{characters}
+use Rattle.sheets.proofs.Lines.{characters-again, characters-all}
 use Rattle.sheets.proofs.line.characters.Statement.{statement}
 use Rattle.sheets.proofs.line.characters.Tie as tie
-use Rattle.sheets.proofs.line.characters.Reads as reads
-use Rattle.sheets.proofs.line.characters.Lts as lts
-use Rattle.sheets.proofs.line.character.Reads as character-reads
 
 abbrev Inv-loop : tie.InvT-loop
-Inv-loop s n out₀ i₀ out i = ?
+Inv-loop s n out₀ i₀ out i = (i ≤ n) × (length out ≡ length out₀) × (out ≡ characters (take i (bitsOf s)) ++ drop i out₀)
 
 abbrev μ-loop : tie.MeasureT-loop
-μ-loop s n out₀ i₀ out i = ?
+μ-loop s n out₀ i₀ out i = n - i
 
--- src/line.rt:17:5
 loop-holds : tie.Need-loop-holds Inv-loop μ-loop
-loop-holds c = ?
+loop-holds c = (omega arith, refl, refl)
 
--- src/line.rt:18:18
 character-requires : tie.Need-character-requires Inv-loop μ-loop
-character-requires c κs = ?
+character-requires c κs = (omega arith, omega arith)
 
--- src/line.rt:18:9
 slice-write-out : tie.Need-slice-write-out Inv-loop μ-loop
-slice-write-out c = ?
+slice-write-out c = omega arith
 
--- src/line.rt:19:9
 add-i : tie.Need-add-i Inv-loop μ-loop
-add-i c = ?
+add-i c = omega arith
 
--- src/line.rt:17:5
 loop-less : tie.Need-loop-less Inv-loop μ-loop
-loop-less c = ?
+loop-less c = omega arith
 
--- src/line.rt:17:5
 loop-again : tie.Need-loop-again Inv-loop μ-loop
-loop-again c = ?
+loop-again c =
+    let a = c .before .before .before .before .before .args in
+    let l = c .before .before .loop in
+    let room = length-bitsOf (now (a .s)) in (
+      omega arith,
+      simp length-set (l .inv .1),
+      rw (l .inv .2, c .character .ensures) (characters-again (bitsOf (now (a .s))) (now (a .out)) (l .i) (omega arith) (omega arith)),
+    )
 
--- src/line.rt:12:1
 same-length : tie.Need-same-length Inv-loop μ-loop
-same-length c = ?
+same-length c = c .before .loop .inv .1
 
--- src/line.rt:12:1
 returns : tie.Need-returns Inv-loop μ-loop
-returns c = ?
+returns c =
+    let a = c .before .before .before .before .args in
+    let l = c .before .loop in
+    let room = length-bitsOf (now (a .s)) in
+    characters-all (bitsOf (now (a .s))) (now (a .out)) _ (l .i) (a .n) (omega arith) (omega arith) (l .inv .2)
 
 pub characters-spec : {M : Type 1} → statement M
 characters-spec =

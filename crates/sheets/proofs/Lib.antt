@@ -1,0 +1,3 @@
+-- What is proved of the program's text, in reading order.
+pub mod Lines
+pub mod Texts
