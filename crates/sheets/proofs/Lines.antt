@@ -48,10 +48,18 @@ line-few input = by (eqb (getD input (length input - 1) 0) 10)
     by true = omega arith
     by false = omega arith
 
+pub line-many : (input : List ℕ) → length input ≤ lineLength input + 1
+unfolding lineLength
+line-many input = by (eqb (getD input (length input - 1) 0) 10)
+  where
+    by : (b : Bool) → length input ≤ cond b (length input - 1) (length input) + 1
+    by true = omega arith
+    by false = omega arith
+
 -- ---- what a line tells, by what packing it finds
 
 -- more than 830 characters are refused by their number, whatever they are
-long-refused : (line : List ℕ) → 830 < length line → told line ≡ atOnce Size
+pub long-refused : (line : List ℕ) → 830 < length line → told line ≡ atOnce Size
 unfolding told checked
 long-refused line h = by (binary line)
   where

@@ -36,7 +36,7 @@ grown-within {before} {text} {out} {at} g =
 
 -- ---- what is refused
 
-decimal-few : (k n : ℕ) → length (digitsOf k n) ≤ k
+pub decimal-few : (k n : ℕ) → length (digitsOf k n) ≤ k
 unfolding digitsOf
 decimal-few zero n = omega arith
 decimal-few (suc k) n = by (ltb n 10) (decimal-few k (n / 10))

@@ -55,8 +55,8 @@ fn is(word: &[u8], other: &[u8]) -> bool {
     pieces::begins(word, 0, other)
 }
 
-// No telegram has more than 830 bits. An input of 832 bytes or more has at least 831 characters before a newline at its end, and is
-// refused for that whatever they are: so no more is read.
+// No telegram has more than 830 bits. An input of 832 bytes or more has at least 831 characters before a newline at its end and is
+// refused for that, whatever they are: so no more is read (`out-kept`).
 fn out() {
     let mut input = [0u8; 832];
     let n = io::read_full(STDIN_FILENO, &mut input);
@@ -65,7 +65,8 @@ fn out() {
     io::write_all(STDOUT_FILENO, &text[..end]);
 }
 
-// No row takes more than 43 bytes: the first that is none, or the 831st, begins within 35,712 bytes, and what follows it does not count.
+// No row takes more than 43 bytes. The first that is none, or the 831st, then begins within 35,712 bytes, and nothing behind it counts: so
+// no more than a buffer is read (`in-kept`).
 fn take_in() {
     let mut input = io::large_buffer();
     let n = io::read_full(STDIN_FILENO, &mut input);
