@@ -9,6 +9,7 @@ mod line;
 
 use crate::answer::from_line;
 use crate::answer::from_sheet;
+use libc::STDERR_FILENO;
 use libc::STDIN_FILENO;
 use libc::STDOUT_FILENO;
 
@@ -62,7 +63,7 @@ fn out() {
     let n = io::read_full(STDIN_FILENO, &mut input);
     let mut text = io::large_buffer();
     let end = from_line(&input[..n], &mut text);
-    io::write_all(STDOUT_FILENO, &text[..end]);
+    print(&text[..end]);
 }
 
 // No row takes more than 43 bytes. The first that is none, or the 831st, then begins within 35,712 bytes, and nothing behind it counts: so
@@ -72,9 +73,16 @@ fn take_in() {
     let n = io::read_full(STDIN_FILENO, &mut input);
     let mut text = [0u8; 1024];
     let end = from_sheet(&input[..n], &mut text);
-    io::write_all(STDOUT_FILENO, &text[..end]);
+    print(&text[..end]);
 }
 
 fn usage() {
-    io::write_all(STDOUT_FILENO, b"usage: sheets out | in\n");
+    print(b"usage: sheets out | in\n");
+}
+
+// A sheet that is written in part is told, since nothing in the part that is there says so.
+fn print(text: &[u8]) {
+    if !io::write_all(STDOUT_FILENO, text) {
+        io::write_all(STDERR_FILENO, b"sheets: writing failed\n");
+    }
 }
