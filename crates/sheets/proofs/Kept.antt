@@ -23,7 +23,7 @@ use Rattle.sheet.specs.Rows.{crlf, heading, labelText, isRadio, fieldOf, entryO
 use Rattle.sheet.specs.Reading.{Row, labelIn, valueIn, closed, valued, rowIn, Rows, above, onRow, rowsIn, sheetIn}
 use Rattle.sheet.specs.Sheets.{onSheet, imported}
 use Rattle.states.specs.Reader.{atOnce}
-use Rattle.sheets.specs.Printed.{lineLength, told, sheetOr, outText, lineOr, inText}
+use Rattle.sheets.specs.Printed.{lineLength, sheetOr, outText, lineOr, inText}
 use Rattle.sheets.proofs.Lines.{line-few, line-many, long-refused}
 use Rattle.sheets.proofs.Texts.{decimal-few}
 
@@ -219,7 +219,6 @@ module _ (text : List ℕ) (m : ℕ) (h : 43 ≤ m) where
   valued-take : (o : Option ℕ) → valued o (take m text) ≡ valued o text
   valued-take none = refl
   valued-take (some k) =
-      let f : Field = fieldOf k in
       let l : length (labelText (fieldOf k)) ≤ 21 = short-at fields k short-fields in
       let same : valueIn (fieldOf k) (drop (length (labelText (fieldOf k))) (take m text)) ≡ valueIn (fieldOf k) (drop (length (labelText (fieldOf k))) text)
       = ap (valueIn (fieldOf k)) (drop-take (length (labelText (fieldOf k))) m text)

@@ -1,14 +1,14 @@
 -- The line of an input, what packing it finds, and the characters of a bit string. Assumes nothing.
 use mathlib.Core.Path.{_≡_, refl, sym, ap, _∙_}
 use mathlib.Core.Bool.{Bool, true, false, cond}
-use mathlib.Core.List.{List, [], _∷_, _++_, map}
-use Prim.Native.Nat.{ℕ, zero, suc, _+_, _-_, _*_, _^_, _≤_, _<_}
+use mathlib.Core.List.{List, [], _∷_, _++_}
+use Prim.Native.Nat.{ℕ, zero, suc, _+_, _-_, _*_, _≤_, _<_}
 use native.Mathlib.Numerals.{add-one}
 use native.Mathlib.Omega.{arith}
 use borrow.Author.Tests.{eq-eqb, ne-eqb, le-leb, lt-leb}
 use lib.Dec.{eqb}
 use lib.ListN.{length, take, drop, getD, set, length-map}
-use lib.Seq.{take-suc, drop-cons, set-at, append-snoc, length-take-le}
+use lib.Seq.{drop-cons, set-at, append-snoc, length-take-le}
 use Rattle.bits.specs.Bits.{valueOf, bitsOf, bytesFor, bytesOf}
 use Rattle.bits.specs.Take.{fieldBits, takeAt}
 use Rattle.bits.specs.declared.Cursor.{Cursor}

@@ -2,7 +2,7 @@
 use mathlib.Core.Path.{_≡_, refl, sym, ap, ap₂, _∙_, subst}
 use mathlib.Core.Bool.{Bool, true, false, cond}
 use mathlib.Core.List.{List, [], _∷_, _++_}
-use Prim.Native.Nat.{ℕ, zero, suc, _+_, _*_, _/_, _%_, _≤_, _<_}
+use Prim.Native.Nat.{ℕ, zero, suc, _+_, _*_, _/_, _%_, _≤_}
 use native.Mathlib.Omega.{arith}
 use borrow.Author.Tests.{le-leb}
 use lib.Dec.{ltb}
@@ -11,7 +11,7 @@ use lib.Seq.{take-append-le, length-take-le}
 use Rattle.bits.specs.Bits.{bitsOf, bytesOf, bytesFor}
 use Rattle.bits.proofs.Bytes.{length-bitsOf, bitsOf-append, length-bytesOf, take-bitsOf-bytesOf}
 use Rattle.format.specs.Rules.{paper}
-use Rattle.format.specs.Telegrams.{Entry, Result, bits, bitCount}
+use Rattle.format.specs.Telegrams.{Result, bits, bitCount}
 use Rattle.format.specs.Telegrams.Result.{accepted, refused}
 use Rattle.format.specs.declared.Kind.the-variants.{Size}
 use Rattle.format.specs.declared.Refusal.{Refusal}
@@ -153,7 +153,6 @@ module _ (input before s : List ℕ) (reply : Reply) (room : length before ≡ 1
       by : (i : Imported) → imported paper input ≡ i → reply ≡ sizeOf i → s ≡ bytesOver i before → InLine input s n
       by (taken es) i is over =
           let m : n ≡ bitCount es = cc in
-          let bs : List ℕ = bits es in
           let l : n ≡ length (bits es) = m ∙ sym (length-bits es) in
           let b : length (bytesOf (bits es)) ≡ bytesFor (length (bits es)) = length-bytesOf (bits es) in
           let all : length s ≡ length (bytesOf (bits es)) + length (drop (length (bytesOf (bits es))) before)
@@ -169,23 +168,20 @@ module _ (input before s : List ℕ) (reply : Reply) (room : length before ≡ 1
       by (refusedBy x) i is over = let z : _≡_ {A = ℕ} 0 1 = cc in absurd (omega arith)
       by (refusedAt k) i is over = let z : _≡_ {A = ℕ} 0 1 = cc in absurd (omega arith)
 
-  pub in-refused : (x : Refusal) → reply ≡ Refused x → refusal reply ≡ inText input
+  in-other : ((n : ℕ) → reply ≡ Done n → ⊥) → refusal reply ≡ inText input
   unfolding inText
-  in-refused x e = by (imported paper input) in-is
+  in-other not-done = by (imported paper input) in-is
     where
       by : (i : Imported) → reply ≡ sizeOf i → refusal reply ≡ lineOr i
-      by (taken es) is = let z : _≡_ {A = ℕ} 0 1 = cc in absurd (omega arith)
-      by (refusedBy y) is = ap refusal is
+      by (taken es) is = absurd (not-done (bitCount es) is)
+      by (refusedBy x) is = ap refusal is
       by (refusedAt k) is = ap refusal is
 
+  pub in-refused : (x : Refusal) → reply ≡ Refused x → refusal reply ≡ inText input
+  in-refused x e = in-other (λ n d. let z : _≡_ {A = ℕ} 0 1 = cc in omega arith)
+
   pub in-row : (k : ℕ) → reply ≡ Row k → refusal reply ≡ inText input
-  unfolding inText
-  in-row k e = by (imported paper input) in-is
-    where
-      by : (i : Imported) → reply ≡ sizeOf i → refusal reply ≡ lineOr i
-      by (taken es) is = let z : _≡_ {A = ℕ} 0 1 = cc in absurd (omega arith)
-      by (refusedBy y) is = ap refusal is
-      by (refusedAt j) is = ap refusal is
+  in-row k e = in-other (λ n d. let z : _≡_ {A = ℕ} 0 1 = cc in omega arith)
 
 -- the line, and its newline
 pub line-put : {input s before mid after : List ℕ} {n e end : ℕ} → InLine input s n → 1024 ≤ length before

@@ -1,8 +1,5 @@
 // Telegrams as data sheets and back: `out` prints the sheet of the telegram that standard input has as a line of characters 0 and 1, `in`
 // the line of the telegram whose sheet standard input has. What is refused is printed by its number and its place, or row.
-ghost use mathlib.Core.Path.{_≡_};
-ghost use Prim.Native.Nat.{_≤_};
-ghost use lib.ListN.{length};
 
 mod answer;
 mod line;
@@ -80,7 +77,7 @@ fn usage() {
     print(b"usage: sheets out | in\n");
 }
 
-// A sheet that is written in part is told, since nothing in the part that is there says so.
+// A write that fails is told: a part of a sheet does not say that it is one.
 fn print(text: &[u8]) {
     if !io::write_all(STDOUT_FILENO, text) {
         io::write_all(STDERR_FILENO, b"sheets: writing failed\n");
