@@ -59,11 +59,10 @@ module _ (v : ℕ) where
 
 placed-all : (k n : ℕ) → ((j : ℕ) → j < k → Lettered (n / 16 ^ j % 16)) → Placed k n
 placed-all zero n f = tt
-placed-all (suc k) n f =
-    (
-      subst (λ (x : ℕ). Lettered (x % 16)) (omega arith) (f 0 (omega arith)),
-      placed-all k (n / 16) (λ j h. subst (λ (x : ℕ). Lettered (x % 16)) (sym (div-div-eq-div-mul n 16 (16 ^ j) ∙ ap (λ (x : ℕ). n / x) (power j))) (f (suc j) (omega arith))),
-    )
+placed-all (suc k) n f = (
+  subst (λ (x : ℕ). Lettered (x % 16)) (omega arith) (f 0 (omega arith)),
+  placed-all k (n / 16) (λ j h. subst (λ (x : ℕ). Lettered (x % 16)) (sym (div-div-eq-div-mul n 16 (16 ^ j) ∙ ap (λ (x : ℕ). n / x) (power j))) (f (suc j) (omega arith))),
+)
   where
     power : (j : ℕ) → 16 * 16 ^ j ≡ 16 ^ suc j
     power j = omega (arith, pow-suc 16 j)

@@ -94,10 +94,12 @@ row-stood text r e = by-label (labelIn 0 fields text) refl e
         subst (λ (y : Row). text ≡ rowText (entryOf (y .number) (y .value)) ++ drop (y .count) text) s
         (whole text k q x (value-is (fieldOf k) (drop (length (labelText (fieldOf k))) text) x v) b)
     by-end k q x v false b z = cc
+
     by-value : (k : ℕ) → labelIn 0 fields text ≡ some k → (o : Option Found) → valueIn (fieldOf k) (drop (length (labelText (fieldOf k))) text) ≡ o
         → closed k (length (labelText (fieldOf k))) o text ≡ some r → text ≡ rowText (entryOf (r .number) (r .value)) ++ drop (r .count) text
     by-value k q none v z = cc
     by-value k q (some x) v z = by-end k q x v (begins crlf (drop (length (labelText (fieldOf k)) + x .count) text)) refl z
+
     by-label : (o : Option ℕ) → labelIn 0 fields text ≡ o → valued o text ≡ some r → Stood text r
     by-label none q z = let w : _≡_ {A = ℕ} 0 1 = cc in absurd (omega arith)
     by-label (some k) q z =

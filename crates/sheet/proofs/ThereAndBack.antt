@@ -79,8 +79,7 @@ module _ (p : Terms) where
       let again : importInto p (take m after) (length out) ≡ taken (w .entries) =
       rw (le-leb 104 (length out) h) (ap (imported p) sheet ∙ sheet-back p (a .telegram)) in
       let size : bitCount (w .entries) ≡ n = sym (length-bits (w .entries)) ∙ sent p s n (w .entries) a in
-      let bytes : bytesOf (bits (w .entries)) ≡ s = same-bytes p s n (w .entries) a b in
-      (
+      let bytes : bytesOf (bits (w .entries)) ≡ s = same-bytes p s n (w .entries) a b in (
         i .answers ∙ ap sizeOf again ∙ ap Done size,
         i .contents ∙ ap (λ (r : Imported). bytesOver r out) again ∙ ap (λ (l : List ℕ). l ++ drop (length l) out) bytes,
       )
@@ -97,8 +96,7 @@ module _ (p : Terms) where
       let b = telegram-back p text (w .entries) (length run) h (w .is) in
       let again : exported p (take (bytesFor n) after) n (length run) ≡ accepted (w .entries) =
       ap (λ (l : List ℕ). exported p l n (length run)) bytes
-      ∙ ap (λ (k : ℕ). exported p (bytesOf (bits (w .entries))) k (length run)) (w .size) ∙ b .0 in
-      (
+      ∙ ap (λ (k : ℕ). exported p (bytesOf (bits (w .entries))) k (length run)) (w .size) ∙ b .0 in (
         x .answers ∙ ap lengthOf again ∙ ap (λ (l : List ℕ). Done (length l)) (b .1),
         x .contents ∙ ap (λ (r : Result). sheetOver r run) again ∙ ap (λ (l : List ℕ). l ++ drop (length l) run) (b .1),
       )
