@@ -2,7 +2,8 @@
 ghost use mathlib.Core.Path.{_≡_};
 ghost use Rattle.format.specs.Table.{fieldNumbers};
 
-// In the order of the table's rows. At an end the next packet's NID_PACKET is due, and in place of the CTCS packet its NID_XUSER.
+// In the order of the table's rows. At an end the number is NID_PACKET's, which is due there between packets (the machine never stands at
+// a group's end), and in place of the CTCS packet NID_XUSER's.
 const FIELDS: [u8; 213] = [
     10, // 0: end
     0, // 1: Q_UPDOWN

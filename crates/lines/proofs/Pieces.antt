@@ -1,6 +1,5 @@
 -- Pieces of text put one behind the other, and the digits of a number. Assumes nothing.
 use mathlib.Core.Path.{_≡_, refl, sym, ap, _∙_, subst}
-use mathlib.Core.Bool.{Bool, true, false, cond}
 use mathlib.Core.List.{List, [], _∷_, _++_, append-assoc, append-nil}
 use Prim.Native.Nat.{ℕ, zero, suc, _+_, _-_, _/_, _%_, _^_, _≤_, _<_}
 use native.Mathlib.Nat.{add-zero, div-lt-iff-lt-mul, le-div-iff-mul-le, pow-suc, pow-le-pow-right, lt-of-not-le}
@@ -8,14 +7,15 @@ use native.Mathlib.Decide.{decLe}
 use native.Mathlib.Numerals.{add-one}
 use native.Mathlib.Omega.{arith}
 use borrow.Author.Tests.{lt-ltb, le-ltb}
-use lib.Dec.{ltb}
 use lib.ListN.{length, take, getD, set, length-append}
 use lib.Seq.{take-suc, take-suc-set, take-length}
 use Rattle.io.specs.Digits.{digits, Fewest}
 use Rattle.format.specs.Refusals.{numberOf}
 use Rattle.format.specs.declared.Answer.{Answer}
 use Rattle.format.specs.declared.Answer.the-variants.{Accepted, Refused}
-use Rattle.lines.specs.Text.{digitsOf, two, textOf, Appended}
+use Rattle.pieces.specs.Numbers.{digitsOf}
+use Rattle.pieces.proofs.Decimals.{length-decimal}
+use Rattle.lines.specs.Text.{two, textOf, Appended}
 
 -- ---- pieces
 
@@ -97,16 +97,6 @@ few-digits k n h w = by (decLe k 20)
         let g = lt-of-not-le l in
         let big : 10 ^ 20 ≤ 10 ^ (k - 1) = pow-le-pow-right {n = 10} (omega arith) {i = 20} {j = k - 1} (omega arith) in
         absurd (omega (arith, w .2 (omega arith)))
-
-pub length-decimal : (k n : ℕ) → length (digitsOf k n) ≤ k
-unfolding digitsOf
-length-decimal zero n = omega arith
-length-decimal (suc k) n = by (ltb n 10) (length-decimal k (n / 10))
-  where
-    by : (b : Bool) → length (digitsOf k (n / 10)) ≤ k
-        → length (cond b ((48 + n) ∷ []) (digitsOf k (n / 10) ++ ((48 + n % 10) ∷ []))) ≤ suc k
-    by true h = omega arith
-    by false h = rw (length-append (digitsOf k (n / 10)) ((48 + n % 10) ∷ [])) (omega arith)
 
 length-two : (a b : ℕ) → length (two a b) ≤ 42
 length-two a b =

@@ -5,12 +5,9 @@ use Rattle.format.specs.declared.Kind.the-variants.{Size, Trailing}
 use Rattle.format.specs.declared.Answer.the-variants.{Accepted, Refused}
 use Rattle.states.specs.Reader.{checked}
 use Rattle.packing.specs.Packing.{binary}
+use Rattle.pieces.specs.Numbers.{digitsOf}
 use Rattle.lines.specs.Lines.{answerTo, noTelegram}
-use Rattle.lines.specs.Text.{digitsOf, decimal, textOf}
-
-numbers : decimal 0 ∷ decimal 9 ∷ decimal 10 ∷ decimal 830 ∷ [] ≡ (48 ∷ []) ∷ (57 ∷ []) ∷ (49 ∷ 48 ∷ []) ∷ (56 ∷ 51 ∷ 48 ∷ []) ∷ []
-unfolding digitsOf
-numbers = refl
+use Rattle.lines.specs.Text.{textOf}
 
 -- `ok 58 11`, `refused 2 0` and `refused 11 50`
 texts : textOf 58 (Accepted 11) ∷ textOf 1 (Refused (record { kind = Size; place = 0 })) ∷ textOf 59 (Refused (record { kind = Trailing; place = 50 })) ∷ []

@@ -1,23 +1,13 @@
 -- Numbers and answers as text. Definitions alone.
 use mathlib.Core.Path.{_≡_}
-use mathlib.Core.Bool.{cond}
 use mathlib.Core.List.{List, [], _∷_, _++_}
-use Prim.Native.Nat.{ℕ, zero, suc, _+_, _/_, _%_}
-use lib.Dec.{ltb}
+use Prim.Native.Nat.{ℕ, _+_}
 use lib.ListN.{length, take}
 use Rattle.format.specs.Refusals.{numberOf}
 use Rattle.format.specs.declared.Answer.{Answer}
 use Rattle.format.specs.declared.Answer.the-variants.{Accepted, Refused}
+use Rattle.pieces.specs.Numbers.{decimal}
 use Rattle.lines.specs.Lines.{answerTo}
-
--- the digits of a number of at most k digits, the character 48 being 0
-unfoldable pub digitsOf : ℕ → ℕ → List ℕ
-digitsOf zero n = []
-digitsOf (suc k) n = cond (ltb n 10) ((48 + n) ∷ []) (digitsOf k (n / 10) ++ ((48 + n % 10) ∷ []))
-
--- no number of the code has more than 20
-abbrev pub decimal : ℕ → List ℕ
-decimal n = digitsOf 20 n
 
 -- two numbers with a space (32) between them and a newline (10) behind them
 abbrev pub two : ℕ → ℕ → List ℕ

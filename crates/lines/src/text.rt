@@ -1,7 +1,8 @@
 // Answers as text.
 ghost use Prim.Native.Nat.{_+_, _≤_};
 ghost use lib.ListN.{length};
-ghost use Rattle.lines.specs.Text.{Appended, decimal, two, textOf};
+ghost use Rattle.lines.specs.Text.{Appended, two, textOf};
+ghost use Rattle.pieces.specs.Numbers.{decimal};
 use format::Answer;
 
 // Puts the line that tells an answer into out from at on: `ok`, n and the count of values, or `refused`, number and place. Gives

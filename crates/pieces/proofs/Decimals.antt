@@ -1,16 +1,16 @@
 -- Decimal numbers: what is written is read, nothing else is, and what the loops of the code go by. Assumes nothing.
-use mathlib.Core.Path.{_≡_, refl, sym, ap, ap₂, _∙_}
+use mathlib.Core.Path.{_≡_, refl, sym, ap, _∙_}
 use mathlib.Core.Bool.{Bool, true, false, cond, _&&_}
 use mathlib.Core.List.{List, [], _∷_, _++_, append-assoc, append-nil}
-use mathlib.Core.Option.{Option, some, none}
+use mathlib.Core.Option.{some, none}
 use Prim.Native.Nat.{ℕ, zero, suc, _+_, _-_, _*_, _/_, _%_, _^_, _≤_, _<_}
-use native.Mathlib.Nat.{pow-suc, add-zero, le-trans}
+use native.Mathlib.Nat.{pow-suc, add-zero}
 use native.Mathlib.Numerals.{add-one, one-add}
 use native.Mathlib.Omega.{arith}
-use borrow.Author.Tests.{lt-ltb, le-ltb, le-leb, lt-leb, ltb-true, ltb-false, leb-true, eq-eqb, ne-eqb, eqb-true, eqb-false}
+use borrow.Author.Tests.{lt-ltb, le-ltb, le-leb, ltb-true, ltb-false, leb-true, ne-eqb, eqb-true, eqb-false}
+use lib.Arith.{lt-of-le-ne}
 use lib.Dec.{eqb, leb, ltb}
-use lib.ListN.{length, take, drop, getD, set, length-append, length-set, drop-of-length-le}
-use lib.Seq.{drop-cons, getD-set-same, drop-set-lt}
+use lib.ListN.{length, length-append}
 use Rattle.pieces.specs.Numbers.{digitsOf, decimal, Found, found, isDigit, digitsFrom, bounded, decimalIn}
 
 -- ---- the digits of a number
@@ -236,7 +236,7 @@ module _ (c : ℕ) (text : List ℕ) (x : Found) where
   fronted-digits d e s =
       let b = digit-bounds c e in
       let y = bounded-is (digitsFrom 0 0 (c ∷ text)) x s in
-      let g : 48 < c = lt-of-ne (b .0) d in
+      let g : 48 < c = lt-of-le-ne (b .0) (λ z. d (sym z)) in
       let first : digitsOf 1 (c - 48) ≡ c ∷ [] =
       digits-one 0 (c - 48) (omega (arith, b .1)) ∙ ap (λ (z : ℕ). z ∷ []) (omega (arith, b .0)) in
       let value : c - 48 ≡ 10 * 0 + (c - 48) = omega arith in
@@ -252,13 +252,6 @@ module _ (c : ℕ) (text : List ℕ) (x : Found) where
         count = t .count ∙ one-add (length (t .front)) ∙ ap length whole;
         small = y .1;
       }
-    where
-      lt-of-ne : 48 ≤ c → (c ≡ 48 → ⊥) → 48 < c
-      lt-of-ne h n = by (ltb 48 c) refl
-        where
-          by : (p : Bool) → ltb 48 c ≡ p → 48 < c
-          by true k = ltb-true 48 c k
-          by false k = absurd (n (omega (arith, ltb-false 48 c k)))
 
 pub decimal-is : (text : List ℕ) (x : Found) → decimalIn text ≡ some x → Fronted decimal text x
 unfolding decimalIn

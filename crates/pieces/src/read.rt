@@ -34,7 +34,7 @@ fn digits_at(text: &[u8], at: usize) -> Number
             return Number::Read(v, i);
         }
         let d = (c - b'0') as u64;
-        if (18446744073709551615 - d) / 10 < v {
+        if (u64::MAX - d) / 10 < v {
             return Number::Not;
         }
         v = 10 * v + d;

@@ -2,30 +2,29 @@
 -- sheets that export writes". For any terms. Assumes nothing.
 use mathlib.Core.Path.{_≡_, refl, sym, ap, ap₂, _∙_}
 use mathlib.Core.Bool.{Bool, true, false, cond}
-use mathlib.Core.List.{List, [], _∷_, _++_}
+use mathlib.Core.List.{List, [], _∷_}
 use mathlib.Core.Option.{Option, some, none}
-use Prim.Native.Nat.{ℕ, zero, suc, _≤_}
+use Prim.Native.Nat.{ℕ, suc, _≤_}
 use native.Mathlib.Omega.{arith}
 use borrow.Author.Tests.{eq-eqb, eqb-true, le-leb}
 use lib.Dec.{eqb}
 use lib.ListN.{length}
 use Rattle.bits.specs.Bits.{bytesOf}
-use Rattle.format.specs.Rules.{Terms, begun}
+use Rattle.format.specs.Rules.{Terms}
 use Rattle.format.specs.Telegrams.{Entry, Result, Telegram, bits, bitCount, values, valuesIn, write}
 use Rattle.format.specs.Telegrams.Result.{accepted, refused}
 use Rattle.laws.proofs.Demand2.{writes, write-is, room}
-use Rattle.laws.proofs.Listed.{AllKnown, telegram-listed}
+use Rattle.laws.proofs.Listed.{telegram-listed}
 use Rattle.states.specs.Labels.{numbers}
-use Rattle.states.specs.Reader.{checked}
 use Rattle.states.proofs.Accepting.{checks}
-use Rattle.states.proofs.Answers.{values-bits}
 use Rattle.sheet.specs.Rows.{sheetText}
 use Rattle.sheet.specs.Reading.{Rows, sheetIn}
 use Rattle.sheet.specs.Reading.Rows.{rows, bad}
-use Rattle.sheet.specs.Sheets.{Imported, exported, otherName, named, judged, onSheet, imported}
-use Rattle.sheet.specs.Sheets.Imported.{taken, refusedBy, refusedAt}
+use Rattle.sheet.specs.Sheets.{exported, otherName, named, judged, onSheet, imported}
+use Rattle.sheet.specs.Sheets.Imported.{taken}
 use Rattle.sheet.specs.Steps.{entriesOf}
 use Rattle.sheet.proofs.Columns.{entries-of, same-length}
+use Rattle.sheet.proofs.Making.{few-values}
 use Rattle.sheet.proofs.Readable.{all-readable}
 use Rattle.sheet.proofs.Written.{sheet-read}
 use Rattle.sheet.proofs.Taken.{Stands, sheet-stands}
@@ -55,8 +54,7 @@ module _ (p : Terms) where
   -- ---- import of an exported sheet
 
   few : {es : List Entry} → Telegram p es → length es ≤ 830
-  unfolding begun
-  few {es} t = omega (arith, count-entries es, values-bits es, room p t)
+  few {es} t = rw (count-entries es) (few-values p t)
 
   -- "import of that sheet gives the telegram again"
   pub sheet-back : {es : List Entry} → Telegram p es → imported p (sheetText es) ≡ taken es

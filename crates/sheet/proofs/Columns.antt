@@ -1,10 +1,10 @@
 -- Rows as two lists, of the fields' numbers and of the values: what they stand for, and what the loops go by that fill or write them. Assumes
 -- nothing.
 use mathlib.Core.Path.{_≡_, refl, sym, ap, ap₂, _∙_, subst}
-use mathlib.Core.Bool.{Bool, true, false, cond}
+use mathlib.Core.Bool.{cond}
 use mathlib.Core.List.{List, [], _∷_, _++_, append-assoc, append-nil}
-use mathlib.Core.Option.{Option, some, none}
-use Prim.Native.Nat.{ℕ, zero, suc, _+_, _-_, _*_, _≤_, _<_}
+use mathlib.Core.Option.{some, none}
+use Prim.Native.Nat.{ℕ, zero, suc, _+_, _*_, _≤_, _<_}
 use native.Mathlib.Numerals.{add-one}
 use native.Mathlib.Omega.{arith}
 use borrow.Author.Tests.{eq-eqb, ne-eqb}
@@ -16,9 +16,9 @@ use Rattle.bits.proofs.Bytes.{below-take}
 use Rattle.format.specs.Telegrams.{Entry, all, values, valuesIn}
 use Rattle.states.specs.Labels.{numbers, numbersIn}
 use Rattle.states.proofs.Driving.{all-append}
-use Rattle.laws.proofs.Listed.{Known, AllKnown}
+use Rattle.laws.proofs.Listed.{AllKnown}
 use Rattle.pieces.specs.Pieces.{Grown}
-use Rattle.sheet.specs.Rows.{rowText, fieldOf, entryOf, labels, starts}
+use Rattle.sheet.specs.Rows.{rowText, entryOf}
 use Rattle.sheet.specs.Sheets.{otherName}
 use Rattle.sheet.specs.Steps.{entriesOf, RowPut, RowsPut, Columns}
 use Rattle.sheet.proofs.Table.{number-of, own-part}

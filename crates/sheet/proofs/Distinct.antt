@@ -1,18 +1,17 @@
 -- No label is the front of another: the field of a row is the one whose label it begins with. Assumes nothing.
-use mathlib.Core.Path.{_≡_, refl, sym, ap, _∙_, subst}
-use mathlib.Core.Bool.{Bool, true, false, cond, not, _&&_, _||_}
+use mathlib.Core.Path.{_≡_, refl, sym, _∙_}
+use mathlib.Core.Bool.{Bool, true, false, not, _&&_, _||_}
 use mathlib.Core.List.{List, [], _∷_, _++_, map}
-use mathlib.Core.Option.{Option, some, none}
-use Prim.Native.Nat.{ℕ, zero, suc, _+_, _≤_, _<_}
+use mathlib.Core.Option.{some}
+use Prim.Native.Nat.{ℕ, zero, suc, _+_, _<_}
 use native.Mathlib.Nat.{add-zero}
-use native.Mathlib.Numerals.{add-one}
 use native.Mathlib.Omega.{arith}
 use borrow.Author.Tests.{lt-ltb}
 use lib.Dec.{T, eqb, ltb}
 use lib.ListN.{length, drop, getD, length-map, List·getD-map}
 use Rattle.pieces.specs.Pieces.{begins}
 use Rattle.pieces.proofs.Starts.{begins-front}
-use Rattle.format.specs.Fields.{Field, fields, END}
+use Rattle.format.specs.Fields.{fields, END}
 use Rattle.format.proofs.Rows.{imp, imp-use, every, each}
 use Rattle.sheet.specs.Rows.{labelText, labels, fieldOf}
 use Rattle.sheet.specs.Reading.{labelIn}

@@ -1,13 +1,12 @@
 -- A row at the front of a text, by the tests that the code makes. Assumes nothing.
 use mathlib.Core.Path.{_≡_, refl, sym, ap, _∙_}
 use mathlib.Core.Bool.{Bool, true, false, cond}
-use mathlib.Core.List.{List, [], _∷_, _++_}
+use mathlib.Core.List.{List, [], _∷_}
 use mathlib.Core.Option.{Option, some, none}
-use Prim.Native.Nat.{ℕ, zero, suc, _+_, _-_, _≤_, _<_}
+use Prim.Native.Nat.{ℕ, suc, _+_, _≤_, _<_}
 use native.Mathlib.Numerals.{add-one}
 use native.Mathlib.Omega.{arith}
-use borrow.Author.Tests.{lt-ltb, ltb-true, ltb-false, eq-eqb, ne-eqb}
-use lib.Dec.{ltb}
+use borrow.Author.Tests.{lt-ltb, eq-eqb, ne-eqb}
 use lib.ListN.{length, drop, length-append, length-drop, drop-of-length-le}
 use lib.Seq.{drop-cons, drop-drop}
 use Rattle.pieces.specs.Pieces.{begins}
@@ -155,12 +154,3 @@ row-number text r e = by (labelIn 0 fields text) refl e
         let n = length (labelText (fieldOf k)) in
         let s : r .number ≡ k = closed-number k n (valueIn (fieldOf k) (drop n text)) z in
         omega (arith, length-fields)
-
--- ---- as the code tells it
-
-pub below : (k : ℕ) → k ≤ 72 → (k ≡ 72 → ⊥) → k < 72
-below k h n = by (ltb k 72) refl
-  where
-    by : (b : Bool) → ltb k 72 ≡ b → k < 72
-    by true e = ltb-true k 72 e
-    by false e = absurd (n (omega (arith, ltb-false k 72 e)))

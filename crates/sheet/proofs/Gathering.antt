@@ -1,13 +1,12 @@
 -- The rows of a text, read one by one into two lists. Assumes nothing.
 use mathlib.Core.Path.{_≡_, refl, sym, ap, ap₂, _∙_, subst}
-use mathlib.Core.Bool.{Bool, true, false, cond}
+use mathlib.Core.Bool.{true, false}
 use mathlib.Core.List.{List, [], _∷_, _++_, append-assoc, append-nil}
 use mathlib.Core.Option.{Option, some, none}
 use Prim.Native.Nat.{ℕ, zero, suc, _+_, _-_, _≤_, _<_}
 use native.Mathlib.Numerals.{add-one}
 use native.Mathlib.Omega.{arith}
-use borrow.Author.Tests.{ltb-true, ltb-false}
-use lib.Dec.{ltb}
+use lib.Arith.{lt-of-le-ne}
 use lib.ListN.{length, take, drop, set, length-set, drop-of-length-le}
 use lib.Seq.{drop-cons, drop-drop, take-suc-set, length-take-le}
 use Rattle.bits.specs.Bits.{Below}
@@ -130,11 +129,7 @@ module _ {text : List ℕ} {at n : ℕ} {ks vs : List ℕ} (g : Gathered text at
 
     module _ (d : n ≡ 830 → ⊥) where
       pub room : n < 830
-      room = by (ltb n 830) refl
-        where
-          by : (b : Bool) → ltb n 830 ≡ b → n < 830
-          by true e = ltb-true n 830 e
-          by false e = absurd (d (omega (arith, ltb-false n 830 e, g .few)))
+      room = lt-of-le-ne (g .few) d
 
       left : 830 - n ≡ suc (830 - (n + 1))
       left = omega (arith, room)

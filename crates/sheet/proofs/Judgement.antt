@@ -1,16 +1,15 @@
 -- What import answers once the rows are read, by the tests that it makes: the writer's, then the names. Assumes nothing.
-use mathlib.Core.Path.{_≡_, refl, sym, ap, _∙_}
-use mathlib.Core.Bool.{Bool, true, false, cond}
-use mathlib.Core.List.{List, [], _∷_, _++_}
+use mathlib.Core.Path.{_≡_, sym, ap, _∙_}
+use mathlib.Core.Bool.{cond}
+use mathlib.Core.List.{List}
 use mathlib.Core.Option.{Option, some, none}
 use Prim.Native.Nat.{ℕ, _≤_, _<_}
-use native.Mathlib.Omega.{arith}
 use borrow.Author.Tests.{le-leb, lt-leb, eq-eqb, ne-eqb}
 use lib.Dec.{eqb}
 use lib.ListN.{length, take, drop}
 use lib.Seq.{take-at}
 use Rattle.format.specs.Rules.{paper}
-use Rattle.format.specs.Telegrams.{Entry, Result, Telegram, bitCount, values, write}
+use Rattle.format.specs.Telegrams.{Entry, Result, bitCount, values, write}
 use Rattle.format.specs.Telegrams.Result.{accepted, refused}
 use Rattle.format.specs.declared.Kind.the-variants.{Room}
 use Rattle.format.specs.declared.Refusal.{Refusal}
@@ -19,10 +18,11 @@ use Rattle.format.specs.declared.Answer.the-variants.{Accepted, Refused}
 use Rattle.laws.proofs.Demand2.{write-is}
 use Rattle.states.specs.Labels.{numbers, labelInto, numbersOver, Label}
 use Rattle.states.specs.Writer.{writeInto, Write}
-use Rattle.states.proofs.Checking.{was-accepted, was-refused}
+use Rattle.states.proofs.Checking.{was-refused}
+use Rattle.states.proofs.Writing.{Written, written}
 use Rattle.states.specs.Writer as writer
 use Rattle.sheet.specs.Reading.{Rows}
-use Rattle.sheet.specs.Reading.Rows.{rows, bad}
+use Rattle.sheet.specs.Reading.Rows.{rows}
 use Rattle.sheet.specs.Sheets.{Imported, otherName, named, judged, onSheet, imported, importInto, sizeOf, bytesOver, Import}
 use Rattle.sheet.specs.Sheets.Imported.{taken, refusedBy, refusedAt}
 use Rattle.sheet.specs.Steps.{entriesOf, Columns, rowsRead, judgement, Judged, Other, Collected}
@@ -45,15 +45,6 @@ module _ {vs due after : List ℕ} {a : Answer} (l : Label paper vs due a after)
   pub label-refused : {x : Refusal} → a ≡ Refused x → write paper vs ≡ refused x
   label-refused {x} q = was-refused bitCount (write paper vs) a x label-answers q
 
-  -- the telegram with these values, and its fields in front
-  pub record Named (n : ℕ) : Type 0 where
-    pub entries : List Entry
-    pub is : write paper vs ≡ accepted entries
-    pub telegram : Telegram paper entries
-    pub same : vs ≡ values entries
-    pub size : n ≡ bitCount entries
-    pub names : take (length vs) after ≡ numbers entries
-
   pub named-as : (es : List Entry) → write paper vs ≡ accepted es → take (length vs) after ≡ numbers es
   named-as es e =
       let t = write-is paper vs es e in
@@ -61,11 +52,9 @@ module _ {vs due after : List ℕ} {a : Answer} (l : Label paper vs due a after)
       ap (take (length vs)) (l .contents ∙ ap (λ (r : Result). numbersOver r due) (into ∙ e))
       ∙ take-at (numbers es) (drop (length (numbers es)) due) (length vs) long
 
-  pub label-accepted : {n : ℕ} → a ≡ Accepted n → Named n
-  label-accepted {n} q =
-      let w = was-accepted bitCount (write paper vs) a n label-answers q in
-      let t = write-is paper vs (w .entries) (w .is) in
-      record { entries = w .entries; is = w .is; telegram = t .0; same = t .1; size = w .counted; names = named-as (w .entries) (w .is) }
+  -- the telegram with these values
+  pub label-accepted : {n : ℕ} → a ≡ Accepted n → Written vs n
+  label-accepted {n} q = written vs label-answers q
 
 -- ---- after the rows
 
@@ -86,9 +75,9 @@ module _ (ks vs before : List ℕ) where
     pub judges-named : (r ≡ 0 → ⊥) → Judged ks vs before (reply.Row r) before
     judges-named n = judged-as (refusedAt r) (first ∙ rw (ne-eqb r 0 n))
 
-    written : 104 ≤ length before → writeInto paper vs (length before) ≡ accepted es
+    wrote : 104 ≤ length before → writeInto paper vs (length before) ≡ accepted es
     unfolding writeInto
-    written h = rw (le-leb 104 (length before) h) e
+    wrote h = rw (le-leb 104 (length before) h) e
 
     -- the telegram, written
     pub judges-taken : r ≡ 0 → 104 ≤ length before → {b : Answer} {after : List ℕ} → Write paper vs before b after → {n : ℕ} → n ≡ bitCount es
@@ -98,7 +87,7 @@ module _ (ks vs before : List ℕ) where
         record {
           answers = ap reply.Done size ∙ ap sizeOf (sym taken-is);
           contents =
-              w .contents ∙ ap (λ (x : Result). writer.bytesOver x before) (written h) ∙ ap (λ (x : Imported). bytesOver x before) (sym taken-is);
+              w .contents ∙ ap (λ (x : Result). writer.bytesOver x before) (wrote h) ∙ ap (λ (x : Imported). bytesOver x before) (sym taken-is);
         }
 
 -- ---- import
@@ -116,7 +105,7 @@ module _ (text before : List ℕ) where
     pub imports-bad : {k : ℕ} → r ≡ counted.Bad k → Import paper text before (reply.Row k) before
     imports-bad {k} e = record { answers = rw import-is (rw e); contents = rw import-is (rw e) }
 
-    module _ {n : ℕ} (e : r ≡ counted.Read n) (few : n ≤ 830) (same : length (take n ks) ≡ length (take n vs)) where
+    module _ {n : ℕ} (e : r ≡ counted.Read n) (same : length (take n ks) ≡ length (take n vs)) where
       here : importInto paper text (length before) ≡ judgement (take n ks) (take n vs)
       here =
           import-is

@@ -1,15 +1,15 @@
 -- What export answers and leaves, by the tests that it makes. Assumes nothing.
-use mathlib.Core.Path.{_≡_, refl, sym, ap, _∙_, subst}
+use mathlib.Core.Path.{_≡_, sym, ap, _∙_, subst}
 use mathlib.Core.List.{List, [], _∷_, _++_}
-use Prim.Native.Nat.{ℕ, _+_, _*_, _≤_, _<_}
+use Prim.Native.Nat.{ℕ, _+_, _≤_, _<_}
 use native.Mathlib.Omega.{arith}
 use borrow.Author.Tests.{le-leb, lt-leb}
 use lib.ListN.{length, take, drop}
 use lib.Seq.{take-at}
 use Rattle.bits.specs.Bits.{Below}
-use Rattle.format.specs.Rules.{paper, begun}
+use Rattle.format.specs.Rules.{Terms, paper, begun}
 use Rattle.format.specs.Telegrams.{Entry, Result, Telegram, all, values, write}
-use Rattle.format.specs.Telegrams.Result.{accepted, refused}
+use Rattle.format.specs.Telegrams.Result.{accepted}
 use Rattle.format.specs.declared.Kind.the-variants.{Room}
 use Rattle.format.specs.declared.Refusal.{Refusal}
 use Rattle.format.specs.declared.Answer.{Answer}
@@ -38,9 +38,9 @@ unfolding numbersIn
 below-numbers [] a = tt
 below-numbers (e ∷ es) a = (known-number (e .field) (a .0), below-numbers es (a .1))
 
-pub few-values : {es : List Entry} → Telegram paper es → length (values es) ≤ 830
+pub few-values : (p : Terms) {es : List Entry} → Telegram p es → length (values es) ≤ 830
 unfolding begun
-few-values {es} t = omega (arith, values-bits es, room paper t)
+few-values p {es} t = omega (arith, values-bits es, room p t)
 
 -- two telegrams with the same values are one
 one-telegram : {es fs : List Entry} → Telegram paper es → Telegram paper fs → values es ≡ values fs → es ≡ fs
@@ -52,7 +52,7 @@ one-telegram {es} {fs} t u e =
 
 module _ {vs text : List ℕ} (l : Listing vs text) where
   pub few-listed : length vs ≤ 830
-  few-listed = rw (l .same) (few-values (l .telegram))
+  few-listed = rw (l .same) (few-values paper (l .telegram))
 
   module _ {due after : List ℕ} {a : Answer} (m : Label paper vs due a after) (h : 830 ≤ length due) where
     named : take (length vs) after ≡ numbers (l .entries)
@@ -128,7 +128,7 @@ module _ (s : List ℕ) (n : ℕ) (before : List ℕ) where
           ∙ take-at (values es) (drop (length (values es)) run) count (sym (accepted-as .counted))
 
       pub few-read : count ≤ 830
-      few-read = rw (accepted-as .counted) (few-values tel)
+      few-read = rw (accepted-as .counted) (few-values paper tel)
 
       pub listing : Listing (take count after) before
       listing = record { entries = es; telegram = tel; same = listed; room = h }

@@ -4,26 +4,27 @@ use mathlib.Core.Path.{_≡_, refl, sym, ap, _∙_, subst}
 use mathlib.Core.Bool.{Bool, true, false, cond, not, _&&_, _||_}
 use mathlib.Core.List.{List, [], _∷_}
 use mathlib.Core.Option.{Option, some, none}
-use Prim.Native.Nat.{ℕ, zero, suc, _+_, _-_, _*_, _/_, _%_, _^_, _≤_, _<_}
+use Prim.Native.Nat.{ℕ, zero, suc, _*_, _/_, _%_, _^_, _≤_, _<_}
 use native.Mathlib.Nat.{pow-suc, div-div-eq-div-mul, pow-le-pow-right, le-trans}
 use native.Mathlib.Omega.{arith}
-use borrow.Author.Tests.{eqb-true, eqb-false, leb-true, ltb-true, ltb-false}
-use lib.Dec.{eqb, leb, ltb}
+use borrow.Author.Tests.{eqb-true, eqb-false, leb-true}
+use lib.Arith.{lt-of-le-ne}
+use lib.Dec.{eqb, leb}
 use lib.ListN.{getD}
 use Rattle.format.specs.Fields.{Field, fields, NID-RADIO, NID-PACKET, END}
 use Rattle.format.specs.Fields.Rule.{radio}
-use Rattle.format.specs.Fields.Sense.{plain}
 use Rattle.format.specs.Packets.{Items}
 use Rattle.format.specs.Packets.Items.{end, nest, send, sendIf, sendEither, sendTimes}
-use Rattle.format.specs.Rules.{State, Context, Terms, Next, due, field, named, ruleOf, radioFrom, broken, unless, verdict, step}
-use Rattle.format.specs.Rules.Next.{go, over, breaks}
+use Rattle.format.specs.Rules.{State, Terms, Next, due, field, named, ruleOf, radioFrom, broken, unless, verdict, step}
+use Rattle.format.specs.Rules.Next.{breaks}
 use Rattle.format.specs.Telegrams.{Entry, entry, Fits, Run, Telegram}
 use Rattle.format.specs.Telegrams.Run.{last, more}
 use Rattle.format.specs.declared.Kind.{Kind}
 use Rattle.laws.proofs.Listed.{Known, AllKnown, telegram-listed}
+use Rattle.laws.proofs.Told.{and-two}
 use Rattle.states.proofs.Stepping.{width-in}
 use Rattle.pieces.proofs.Sixteens.{Lettered, Placed, lettered-digit}
-use Rattle.sheet.specs.Rows.{isRadio, fieldOf}
+use Rattle.sheet.specs.Rows.{isRadio}
 
 -- ---- the places of a radio number
 
@@ -33,29 +34,17 @@ module _ (v : ℕ) where
   place-by d full false true x y e = lettered-digit d (leb-true d 9 y)
   place-by d full false false x y e = let w : _≡_ {A = ℕ} 0 1 = cc in absurd (omega arith)
 
-  both : (a b : Bool) → (a && b) ≡ true → (a ≡ true) × (b ≡ true)
-  both true true e = (refl, refl)
-  both true false e = (cc, cc)
-  both false b e = (cc, cc)
-
   places : (k : ℕ) (full : Bool) → radioFrom k full v ≡ true → (j : ℕ) → j < k → Lettered (v / 16 ^ j % 16)
   unfolding radioFrom
   places zero full e j h = absurd (omega arith)
   places (suc k) full e j h =
       let d = v / 16 ^ k % 16 in
-      let b = both (eqb d 15 || leb d 9 && not full) (radioFrom k (full || eqb d 15) v) e in
+      let b = and-two (eqb d 15 || leb d 9 && not full) (radioFrom k (full || eqb d 15) v) e in
       by (eqb j k) refl (place-by d full (eqb d 15) (leb d 9) refl refl (b .0)) (places k (full || eqb d 15) (b .1) j)
     where
       by : (c : Bool) → eqb j k ≡ c → Lettered (v / 16 ^ k % 16) → (j < k → Lettered (v / 16 ^ j % 16)) → Lettered (v / 16 ^ j % 16)
       by true q here ih = rw (eqb-true j k q) here
-      by false q here ih = ih (lt-of-ne q)
-        where
-          lt-of-ne : eqb j k ≡ false → j < k
-          lt-of-ne q = at (ltb j k) refl
-            where
-              at : (c : Bool) → ltb j k ≡ c → j < k
-              at true r = ltb-true j k r
-              at false r = absurd (eqb-false j k q (omega (arith, ltb-false j k r)))
+      by false q here ih = ih (lt-of-le-ne (omega arith) (eqb-false j k q))
 
 placed-all : (k n : ℕ) → ((j : ℕ) → j < k → Lettered (n / 16 ^ j % 16)) → Placed k n
 placed-all zero n f = tt

@@ -1,15 +1,14 @@
 -- The labels of the rows as the code keeps them are those of the fields: each a test that the checker computes over all of them. Assumes
 -- nothing.
 use mathlib.Core.Path.{_≡_, refl, sym, ap, _∙_, subst}
-use mathlib.Core.Bool.{Bool, true, false, _&&_}
-use mathlib.Core.List.{List, [], _∷_, map}
+use mathlib.Core.Bool.{Bool}
+use mathlib.Core.List.{List, map}
 use Prim.Native.Nat.{ℕ, suc, _+_, _-_, _<_, _≤_}
 use native.Mathlib.Numerals.{add-one}
 use native.Mathlib.Omega.{arith}
 use lib.Dec.{T, eqb, eqb→eq, leb, leb→le}
 use lib.ListN.{length, take, drop, getD, List·getD-map}
-use Rattle.pieces.specs.Numbers.{digitsOf}
-use Rattle.format.specs.Fields.{Field, fields, NID-RADIO, END}
+use Rattle.format.specs.Fields.{Field, fields, END}
 use Rattle.format.proofs.Rows.{every, each}
 use Rattle.sheet.specs.Rows.{labelText, labels, starts, fieldOf, isRadio}
 use Rattle.sheet.specs.Steps.{Tables}

@@ -2,16 +2,16 @@
 -- imported and exported again is the same sheet. For any terms. Assumes nothing.
 use mathlib.Core.Path.{_≡_, refl, sym, ap, _∙_}
 use mathlib.Core.Bool.{Bool, true, false, cond}
-use mathlib.Core.List.{List, [], _∷_, _++_}
+use mathlib.Core.List.{List, _++_}
 use Prim.Native.Nat.{ℕ, _≤_}
 use native.Mathlib.Omega.{arith}
-use borrow.Author.Tests.{leb-true, le-leb}
+use borrow.Author.Tests.{le-leb}
 use lib.Dec.{leb}
 use lib.ListN.{length, take, drop}
 use lib.Seq.{take-at}
 use Rattle.bits.specs.Bits.{bytesOf, bytesFor, Below}
 use Rattle.format.specs.Rules.{Terms}
-use Rattle.format.specs.Telegrams.{Entry, Result, Telegram, bits, bitCount}
+use Rattle.format.specs.Telegrams.{Entry, Result, bits, bitCount}
 use Rattle.format.specs.Telegrams.Result.{accepted, refused}
 use Rattle.format.specs.declared.Kind.the-variants.{Room}
 use Rattle.laws.proofs.Demand2.{length-bits}

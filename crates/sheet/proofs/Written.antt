@@ -1,13 +1,12 @@
 -- What export writes is read as what it wrote: row by row, and the sheet. Assumes nothing.
-use mathlib.Core.Path.{_≡_, refl, sym, ap, ap₂, _∙_, subst}
+use mathlib.Core.Path.{_≡_, refl, sym, ap, _∙_, subst}
 use mathlib.Core.Bool.{Bool, true, false, cond}
 use mathlib.Core.List.{List, [], _∷_, _++_, append-assoc}
-use mathlib.Core.Option.{Option, some, none}
+use mathlib.Core.Option.{Option, some}
 use Prim.Native.Nat.{ℕ, zero, suc, _+_, _^_, _≤_, _<_}
 use native.Mathlib.Omega.{arith}
 use lib.ListN.{length, drop, length-append}
 use lib.Seq.{drop-at}
-use Rattle.pieces.specs.Pieces.{begins}
 use Rattle.pieces.specs.Numbers.{Found, found, decimal, sixteen, decimalIn, sixteenIn}
 use Rattle.pieces.proofs.Starts.{begins-front}
 use Rattle.pieces.proofs.Decimals.{decimal-read}
@@ -16,10 +15,10 @@ use Rattle.format.specs.Fields.{Field, fields}
 use Rattle.format.specs.Telegrams.{Entry, all}
 use Rattle.laws.proofs.Listed.{known-number}
 use Rattle.sheet.specs.Rows.{crlf, heading, labelText, isRadio, valueText, rowText, sheetText, fieldOf, entryOf}
-use Rattle.sheet.specs.Reading.{Row, row, Rows, labelIn, valueIn, closed, valued, rowIn, above, onRow, rowsIn, sheetIn}
-use Rattle.sheet.specs.Reading.Rows.{rows, bad}
-use Rattle.sheet.proofs.Table.{number-of, own-part}
-use Rattle.sheet.proofs.Gathering.{rows-row, length-heading}
+use Rattle.sheet.specs.Reading.{Row, row, labelIn, valueIn, closed, valued, rowIn, above, onRow, rowsIn, sheetIn}
+use Rattle.sheet.specs.Reading.Rows.{rows}
+use Rattle.sheet.proofs.Table.{own-part}
+use Rattle.sheet.proofs.Gathering.{rows-row}
 use Rattle.sheet.proofs.Distinct.{label-first}
 use Rattle.sheet.proofs.Readable.{Readable, AllReadable}
 

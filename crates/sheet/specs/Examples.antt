@@ -3,14 +3,20 @@ use mathlib.Core.Path.{_≡_, refl}
 use mathlib.Core.List.{List, [], _∷_, _++_}
 use mathlib.Core.Option.{some, none}
 use Prim.Native.Nat.{ℕ}
-use lib.ListN.{length}
 use Rattle.pieces.specs.Pieces.{begins}
 use Rattle.pieces.specs.Numbers.{digitsOf, placesOf, decimalIn, digitsFrom, sixteenIn, placesFrom}
 use Rattle.format.specs.Fields.{fields, Q-DIR, NID-RADIO, END}
-use Rattle.format.specs.Telegrams.{Entry}
+use Rattle.format.specs.Packets.{_⧺_, times, header, etcs, ctcs, find}
+use Rattle.format.specs.Rules.{begun, next, misdirected, broken, noted, closes, settled, onward, step, radioFrom, packetPlace, among, sameAsEarlier, paper}
+use Rattle.format.specs.Telegrams.{write, fromValues, drive, valuesIn}
+use Rattle.format.specs.declared.Kind.the-variants.{Header, Ended}
+use Rattle.states.specs.Labels.{numbersIn}
 use Rattle.sheet.specs.Rows.{textOf, crlf, heading, labelText, rowText}
 use Rattle.sheet.specs.Reading.{row, rowIn, rowsIn, sheetIn}
 use Rattle.sheet.specs.Reading.Rows.{rows, bad}
+use Rattle.sheet.specs.Sheets.{imported, sizeOf}
+use Rattle.sheet.specs.declared.Reply.{Reply}
+use Rattle.sheet.specs.declared.Reply.the-variants as reply
 
 -- `Q_DIR,2,1` and `NID_RADIO,64,08614970020002FF`
 rows-written : rowText (record { field = Q-DIR; value = 1 }) ∷ rowText (record { field = NID-RADIO; value = 0x08614970020002FF }) ∷ []
@@ -37,3 +43,34 @@ sheets : sheetIn [] ∷ sheetIn heading ∷ sheetIn (heading ++ textOf "END,8,25
     ≡ bad 0 ∷ rows [] ∷ rows (record { field = END; value = 255 } ∷ []) ∷ bad 1 ∷ []
 unfolding sheetIn heading begins rowsIn rowIn fields labelText decimalIn digitsFrom digitsOf sixteenIn placesFrom
 sheets = refl
+
+-- ---- the order of the three stages
+
+abbrev line : List ℕ → List ℕ → List ℕ
+line text rest = text ++ crlf ++ rest
+
+-- document 01's case 1, with these three rows in the place of Q_UPDOWN's, M_VERSION's and the end mark's
+abbrev sheetWith : List ℕ → List ℕ → List ℕ → List ℕ
+sheetWith first second end =
+    heading ++ line first (line second (line (textOf "Q_MEDIA,1,0") (line (textOf "N_PIG,3,0") (line (textOf "N_TOTAL,3,1") (line (textOf "M_DUP,2,0")
+    (line (textOf "M_MCOUNT,8,255") (line (textOf "NID_C,10,9") (line (textOf "NID_BG,14,3007") (line (textOf "Q_LINK,1,1") (line end []))))))))))
+
+unfoldable answer : List ℕ → Reply
+unfolding imported sheetIn heading begins rowsIn rowIn fields labelText decimalIn digitsFrom digitsOf sixteenIn placesFrom write drive begun fromValues step next find etcs ctcs header times _⧺_ broken misdirected noted settled onward closes radioFrom packetPlace sameAsEarlier among valuesIn numbersIn
+answer text = sizeOf (imported paper text)
+
+-- a wrong name, a wrong value and a bad row: the row wins, wherever it stands; then the value; then the name
+three : answer (sheetWith (textOf "Q_LINK,1,1") (textOf "M_VERSION,7,17") (textOf "END,8,0255"))
+    ∷ answer (sheetWith (textOf "Q_LINK,1,1") (textOf "M_VERSION,7,17") (textOf "END,8,255"))
+    ∷ answer (sheetWith (textOf "Q_LINK,1,1") (textOf "M_VERSION,7,16") (textOf "END,8,255"))
+    ∷ answer (sheetWith (textOf "Q_UPDOWN,1,1") (textOf "M_VERSION,7,16") (textOf "END,8,255"))
+    ∷ []
+    ≡ reply.Row 11 ∷ reply.Refused (record { kind = Header; place = 0 }) ∷ reply.Row 1 ∷ reply.Done 58 ∷ []
+unfolding answer
+three = refl
+
+-- the end mark under the name of a packet's identifier, and no row at all
+others : answer (sheetWith (textOf "Q_UPDOWN,1,1") (textOf "M_VERSION,7,16") (textOf "NID_PACKET,8,255")) ∷ answer heading ∷ []
+    ≡ reply.Row 11 ∷ reply.Refused (record { kind = Ended; place = 0 }) ∷ []
+unfolding answer
+others = refl

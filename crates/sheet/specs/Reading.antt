@@ -1,7 +1,7 @@
 -- Document 02, request 1: a text taken as a sheet. "in import 20, at the first such row (header 0), for a wrong header, a row that isn't a
 -- known name, that name's own width, a value (no needless zeros) and CRLF, a number past 64 bits or an 831st field row". Definitions alone.
 use mathlib.Core.Bool.{cond}
-use mathlib.Core.List.{List, [], _∷_, _++_}
+use mathlib.Core.List.{List, [], _∷_}
 use mathlib.Core.Option.{Option, some, none}
 use Prim.Native.Nat.{ℕ, zero, suc, _+_}
 use lib.ListN.{length, drop}

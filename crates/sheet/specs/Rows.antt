@@ -1,7 +1,7 @@
 -- Document 02, request 1: the text of a sheet. "RFC 4180 text: a header row `variable,bits,value`, CRLF, one row per field". Definitions alone.
 use mathlib.Core.Bool.{Bool, cond}
-use mathlib.Core.List.{List, [], _∷_, _++_, map}
-use Prim.Native.Char.{Char, code}
+use mathlib.Core.List.{List, [], _∷_, _++_}
+use Prim.Native.Char.{code}
 use Prim.Native.Nat.{ℕ, _+_}
 use Prim.Native.String.{String}
 use lib.Dec.{eqb}

@@ -11,8 +11,8 @@ use Rattle.format.specs.Fields.{fields}
 use Rattle.format.specs.Rules.{paper}
 use Rattle.format.specs.Telegrams.{Entry, Telegram, all, values, write}
 use Rattle.format.specs.Telegrams.Result.{accepted}
-use Rattle.pieces.specs.Pieces.{begins, Appended, Grown}
-use Rattle.sheet.specs.Rows.{labelText, valueText, rowText, fieldOf, entryOf, labels, starts}
+use Rattle.pieces.specs.Pieces.{begins, Grown}
+use Rattle.sheet.specs.Rows.{labelText, rowText, fieldOf, entryOf, labels, starts}
 use Rattle.sheet.specs.Reading.{Row, Rows, labelIn, sheetIn}
 use Rattle.sheet.specs.Reading.Rows.{rows, bad}
 use Rattle.sheet.specs.Sheets.{Imported, lengthOf, sheetOver, otherName, judged, sizeOf, bytesOver}

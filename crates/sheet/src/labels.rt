@@ -1,5 +1,5 @@
-// What each row begins with, for all 72 fields by number, as one text, and where each begins in it. The checker computes that they are the
-// names and widths of the one table of fields, so that a name is spelled there alone for whoever reads.
+// What each row begins with, for all 72 fields by number, as one text, and where each begins in it. specs/Fields.antt of the crate format
+// spells the names; the checker computes that these are the same letters.
 ghost use mathlib.Core.Path.{_≡_};
 ghost use Rattle.sheet.specs.Rows.{labels, starts};
 

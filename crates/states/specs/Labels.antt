@@ -48,6 +48,6 @@ pub record Labelling (vs : List ℕ) (out : List ℕ) : Type 0 where
 abbrev pub Labelled : List ℕ → List ℕ → List ℕ → Type 0
 Labelled vs before after = (es : List Entry) → Telegram paper es → vs ≡ values es → after ≡ numbersOver (accepted es) before
 
--- the number of the field that is due in row k, if it is no group's end, and holds v: between packets 255 is the end mark
+-- the number of the field due in row k, which is no group's end, with the value v: between packets 255 is the end mark
 abbrev pub numberAt : ℕ → ℕ → ℕ
 numberAt k v = cond (eqb (act k) 0 && eqb v 255) (END .number) (fieldAt k .number)

@@ -17,6 +17,9 @@ use states::Ahead;
 use states::Todo;
 use states::codes::END;
 
+// The number of the end mark's field.
+const MARK: u8 = 71;
+
 // Which field each value of a telegram's list is, by number, in order of sending; the end mark is 71. A refusal is the writer's, or 1 under
 // 830 bytes, and leaves fields as it was. Answers n.
 pub fn label(values: &[u64], fields: &mut [u8]) -> Answer
@@ -68,7 +71,7 @@ fn number(rows: &[u32; 213], numbers: &[u8; 213], k: usize, v: u64) -> u8
 {
     if act(rows, k) == END {
         if v == 255 {
-            return 71;
+            return MARK;
         }
     }
     numbers[k]

@@ -7,7 +7,7 @@ use native.Mathlib.Numerals.{add-one}
 use native.Mathlib.Omega.{arith}
 use denote.Ref.{now}
 use lib.ListN.{length, set, getD, length-set}
-use lib.Seq.{paste, paste-zero, paste-suc, length-paste}
+use lib.Seq.{paste, paste-zero, paste-suc}
 use Rattle.pieces.proofs.Starts.{put-nothing, put-whole}
 use Rattle.pieces.proofs.append.Statement.{statement}
 use Rattle.pieces.proofs.append.Tie as tie

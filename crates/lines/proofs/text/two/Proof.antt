@@ -1,6 +1,7 @@
 -- `lines::text::two` meets its contract: four pieces, one behind the other. Assumes nothing.
 use native.Mathlib.Omega.{arith}
-use Rattle.lines.proofs.Pieces.{length-decimal, then}
+use Rattle.pieces.proofs.Decimals.{length-decimal}
+use Rattle.lines.proofs.Pieces.{then}
 use borrow.Author.Needs.{needs}
 use Rattle.lines.proofs.text.two.Statement.{statement}
 use Rattle.lines.proofs.text.two.Tie as tie

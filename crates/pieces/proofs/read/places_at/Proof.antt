@@ -1,13 +1,11 @@
 -- `pieces::read::places_at` meets its contract. The loop's invariant, `Reading`: what is read from at on is what is read from i on behind k
 -- places of v. The measure is how many places are left. Assumes nothing.
-use mathlib.Core.Path.{_≡_, sym, ap, _∙_}
-use Prim.Native.Nat.{ℕ, _+_, _-_, _*_, _^_, _<_, _≤_}
-use native.Mathlib.Nat.{pow-le-pow-right, le-trans}
+use mathlib.Core.Path.{sym, _∙_}
+use Prim.Native.Nat.{_+_, _-_}
 use native.Mathlib.Omega.{arith}
 use borrow.Author.Needs.{needs}
 use borrow.Author.Tests.{not-true, not-false}
 use denote.Ref.{now}
-use lib.ListN.{length, getD}
 use Rattle.pieces.proofs.Sixteens.{Reading, reading-first, reading-on, reads-all, reads-short, reads-other, room, small-places}
 use Rattle.pieces.proofs.read.places_at.Statement.{statement}
 use Rattle.pieces.proofs.read.places_at.Tie as tie

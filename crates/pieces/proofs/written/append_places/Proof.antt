@@ -1,10 +1,5 @@
 -- `pieces::written::append_places` meets its contract: the piece that is put is the sixteen places. Assumes nothing.
-use mathlib.Core.Path.{subst}
-use mathlib.Core.List.{List}
-use Prim.Native.Nat.{ℕ}
 use borrow.Author.Needs.{needs}
-use denote.Ref.{now}
-use Rattle.pieces.specs.Pieces.{Appended}
 use Rattle.pieces.proofs.written.append_places.Statement.{statement}
 use Rattle.pieces.proofs.written.append_places.Tie as tie
 

@@ -2,7 +2,6 @@
 -- them, are the digits of v. The measure is the room that is left. Assumes nothing.
 use mathlib.Core.Path.{sym, _∙_}
 use native.Mathlib.Omega.{arith}
-use denote.Ref.{now}
 use lib.ListN.{length-set}
 use Rattle.pieces.proofs.Loops.{Putting, putting-first, putting-on, put-first}
 use Rattle.pieces.proofs.written.digits.Statement.{statement}

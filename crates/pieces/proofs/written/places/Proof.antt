@@ -3,7 +3,6 @@
 use mathlib.Core.Path.{sym, _∙_}
 use native.Mathlib.Omega.{arith}
 use borrow.Author.Needs.{needs}
-use denote.Ref.{now}
 use Rattle.pieces.proofs.Sixteens.{Putting, putting-first, putting-on, put-all}
 use Rattle.pieces.proofs.written.places.Statement.{statement}
 use Rattle.pieces.proofs.written.places.Tie as tie

@@ -1,13 +1,10 @@
 -- `sheet::reading::collect` meets its contract. The loop's invariant, `Gathered`: the rows of the text are those that are kept and then those
 -- from at on. The measure is how many rows may follow. Assumes nothing.
-use mathlib.Core.Path.{_≡_, sym, ap, _∙_}
-use mathlib.Core.List.{List}
-use Prim.Native.Nat.{ℕ, _-_}
+use mathlib.Core.Path.{sym, _∙_}
+use Prim.Native.Nat.{_-_}
 use native.Mathlib.Omega.{arith}
 use borrow.Author.Needs.{needs}
 use borrow.Author.Tests.{not-true, not-false}
-use denote.Ref.{now}
-use lib.ListN.{length-set}
 use Rattle.sheet.specs.Rows.{heading}
 use Rattle.sheet.proofs.Gathering.{Gathered, headless, gathered-first, gathered-all, too-many, room, bad-row, small, gathered-on}
 use Rattle.sheet.proofs.reading.collect.Statement.{statement}

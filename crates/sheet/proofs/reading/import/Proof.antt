@@ -3,7 +3,6 @@ use mathlib.Core.Path.{refl, sym, _∙_, subst}
 use Prim.Native.Nat.{ℕ}
 use native.Mathlib.Omega.{arith}
 use borrow.Author.Needs.{needs}
-use denote.Ref.{now}
 use lib.Seq.{length-take-le}
 use Rattle.sheet.specs.Steps.{FewRows}
 use Rattle.sheet.specs.declared.reading.Rows.{Rows}
@@ -69,7 +68,7 @@ returns-3 c =
     let n : ℕ = c .before .before .before .before .before .before .before .n .given .0 .0 in
     let ks = length-take-le n (c .before .before .before .before .before .before .before .before .before .before .before .collect .last .1 .0) (omega (arith, f .0)) in
     let vs = length-take-le n (c .before .before .before .before .before .before .before .before .before .before .before .collect .last .1 .1 .0) (omega (arith, f .0)) in
-    imports-judged _ _ (c .before .before .before .before .before .before .before .before .before .before .before .before .before .before .if1 .left) (c .before .before .before .before .before .before .before .before .before .before .before .collect .ensures) (c .before .before .before .before .before .before .before .n .given .1) (f .0) (ks ∙ sym vs) (c .before .before .judge .ensures)
+    imports-judged _ _ (c .before .before .before .before .before .before .before .before .before .before .before .before .before .before .if1 .left) (c .before .before .before .before .before .before .before .before .before .before .before .collect .ensures) (c .before .before .before .before .before .before .before .n .given .1) (ks ∙ sym vs) (c .before .before .judge .ensures)
 
 pub import-spec : {M : Type 1} → statement M
 import-spec =

@@ -1,14 +1,13 @@
 -- `sheet::reading::judge` meets its contract: the writer's refusal, then the names, then the telegram. Assumes nothing.
-use mathlib.Core.Path.{_≡_, sym, ap, _∙_, subst}
+use mathlib.Core.Path.{sym, _∙_, subst}
 use mathlib.Core.List.{List}
 use Prim.Native.Nat.{ℕ}
 use native.Mathlib.Omega.{arith}
 use borrow.Author.Needs.{needs}
 use denote.Ref.{now}
-use lib.ListN.{length}
 use lib.Seq.{length-take-le}
 use Rattle.sheet.specs.Steps.{Other}
-use Rattle.sheet.proofs.Judgement.{label-refused, label-accepted, judges-refused, judges-named, judges-taken}
+use Rattle.sheet.proofs.Judgement.{label-refused, named-as, label-accepted, judges-refused, judges-named, judges-taken}
 use Rattle.sheet.proofs.reading.judge.Statement.{statement}
 use Rattle.sheet.proofs.reading.judge.Tie as tie
 
@@ -36,7 +35,7 @@ other-name-requires c κs = c .before .before .before .before .before .before .b
 returns-2 : tie.Need-returns-2
 returns-2 c =
     let w = label-accepted (c .before .before .before .before .before .before .before .label .ensures) (omega arith) (c .before .before .before .before .n .given .1) in
-    judges-named _ _ _ (c .before .before .before .before .before .before .before .before .before .before .before .before .pre .columns) (w .entries) (w .is) _ (subst (λ (l : List ℕ). Other (now (c .before .before .before .before .before .before .before .before .before .before .before .before .args .fields)) l (c .before .other-name .result)) (w .names) (c .before .other-name .ensures)) (c .if1 .taken)
+    judges-named _ _ _ (c .before .before .before .before .before .before .before .before .before .before .before .before .pre .columns) (w .entries) (w .is) _ (subst (λ (l : List ℕ). Other (now (c .before .before .before .before .before .before .before .before .before .before .before .before .args .fields)) l (c .before .other-name .result)) (named-as (c .before .before .before .before .before .before .before .label .ensures) (omega arith) (w .entries) (w .is)) (c .before .other-name .ensures)) (c .if1 .taken)
 
 same-length : tie.Need-same-length
 same-length c = search needs
@@ -44,7 +43,7 @@ same-length c = search needs
 returns-3 : tie.Need-returns-3
 returns-3 c =
     let w = label-accepted (c .before .before .before .before .before .before .before .before .before .before .before .label .ensures) (omega arith) (c .before .before .before .before .before .before .before .before .n .given .1) in
-    judges-taken _ _ _ (c .before .before .before .before .before .before .before .before .before .before .before .before .before .before .before .before .pre .columns) (w .entries) (w .is) _ (subst (λ (l : List ℕ). Other (now (c .before .before .before .before .before .before .before .before .before .before .before .before .before .before .before .before .args .fields)) l (c .before .before .before .before .before .other-name .result)) (w .names) (c .before .before .before .before .before .other-name .ensures)) (c .before .before .before .before .if1 .left) (c .before .before .before .before .before .before .before .before .before .before .before .before .before .before .before .before .pre .room) (c .before .before .write .ensures) (w .size)
+    judges-taken _ _ _ (c .before .before .before .before .before .before .before .before .before .before .before .before .before .before .before .before .pre .columns) (w .entries) (w .is) _ (subst (λ (l : List ℕ). Other (now (c .before .before .before .before .before .before .before .before .before .before .before .before .before .before .before .before .args .fields)) l (c .before .before .before .before .before .other-name .result)) (named-as (c .before .before .before .before .before .before .before .before .before .before .before .label .ensures) (omega arith) (w .entries) (w .is)) (c .before .before .before .before .before .other-name .ensures)) (c .before .before .before .before .if1 .left) (c .before .before .before .before .before .before .before .before .before .before .before .before .before .before .before .before .pre .room) (c .before .before .write .ensures) (w .size)
 
 label-requires : tie.Need-label-requires
 label-requires c κs = search needs

@@ -1,12 +1,12 @@
 -- `sheet::row::field_at` meets its contract. The loop's invariant: no field before k has its label there. The measure is how many fields are
 -- left. Assumes nothing.
-use mathlib.Core.Path.{_≡_, refl, sym, ap, _∙_}
+use mathlib.Core.Path.{refl, sym, ap, _∙_}
 use mathlib.Core.List.{List}
-use Prim.Native.Nat.{ℕ, _+_, _-_, _<_}
+use Prim.Native.Nat.{ℕ, _+_, _-_}
 use native.Mathlib.Omega.{arith}
 use borrow.Author.Needs.{needs}
 use denote.Ref.{now}
-use lib.ListN.{length, drop, getD}
+use lib.ListN.{drop}
 use Rattle.pieces.specs.Pieces.{begins}
 use Rattle.sheet.proofs.Table.{part}
 use Rattle.sheet.proofs.Fronts.{Sought, sought-on, found-at, found-none}

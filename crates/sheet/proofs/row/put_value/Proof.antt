@@ -1,6 +1,5 @@
 -- `sheet::row::put_value` meets its contract. Assumes nothing.
 use borrow.Author.Needs.{needs}
-use denote.Ref.{now}
 use Rattle.sheet.proofs.Texts.{text-radio, text-other}
 use Rattle.sheet.proofs.row.put_value.Statement.{statement}
 use Rattle.sheet.proofs.row.put_value.Tie as tie

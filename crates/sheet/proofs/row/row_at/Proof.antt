@@ -1,18 +1,20 @@
 -- `sheet::row::row_at` meets its contract: a label, the value behind it, and CRLF behind that. Assumes nothing.
-use mathlib.Core.Path.{_≡_, sym, ap, _∙_, subst}
-use Prim.Native.Nat.{ℕ, _+_, _-_, _<_}
+use mathlib.Core.Path.{_≡_, sym, _∙_, subst}
+use Prim.Native.Nat.{ℕ, _+_}
 use native.Mathlib.Omega.{arith}
 use borrow.Author.Needs.{needs}
 use borrow.Author.Tests.{not-true, not-false}
 use denote.Ref.{now}
-use lib.ListN.{drop, getD}
+use lib.Arith.{lt-of-le-ne}
+use lib.ListN.{drop}
 use Rattle.pieces.specs.Numbers.{readAt}
 use Rattle.sheet.specs.Rows.{crlf, labelText, fieldOf}
 use Rattle.sheet.specs.Reading.{valueIn}
 use Rattle.sheet.proofs.Table.{part}
-use Rattle.sheet.proofs.Fronts.{begins-fits, below, size, row-nameless, row-valueless, valued-at, row-open, row-whole}
+use Rattle.sheet.proofs.Fronts.{begins-fits, size, row-nameless, row-valueless, valued-at, row-open, row-whole}
 use Rattle.sheet.proofs.row.row_at.Statement.{statement}
 use Rattle.sheet.proofs.row.row_at.Tie as tie
+
 
 field-at-requires : tie.Need-field-at-requires
 field-at-requires c κs = c .before .before .before .pre
@@ -21,42 +23,42 @@ returns : tie.Need-returns
 returns c = sym (row-nameless (now (c .before .before .before .before .before .args .text)) (c .before .before .before .before .before .args .at) _ (c .before .field-at .ensures) (c .if1 .taken))
 
 mul-a : tie.Need-mul-a
-mul-a c = let h = below (c .before .field-at .result) (c .before .field-at .ensures .few) (c .if1 .left) in omega (arith, h)
+mul-a c = let h = lt-of-le-ne (c .before .field-at .ensures .few) (c .if1 .left) in omega (arith, h)
 
 shared-slice-read-a : tie.Need-shared-slice-read-a
-shared-slice-read-a c = let p = part (c .before .before .before .before .before .before .pre) (c .before .before .field-at .result) (below _ (c .before .before .field-at .ensures .few) (c .before .if1 .left)) in omega (arith, p .within)
+shared-slice-read-a c = let p = part (c .before .before .before .before .before .before .pre) (c .before .before .field-at .result) (lt-of-le-ne (c .before .before .field-at .ensures .few) (c .before .if1 .left)) in omega (arith, p .within)
 
 cast-a : tie.Need-cast-a
 cast-a c = omega (arith, c .before .before .before .before .shared-slice-known2 .given (c .before .before .field-at .result))
 
 add-e : tie.Need-add-e
-add-e c = let h = below (c .before .before .field-at .result) (c .before .before .field-at .ensures .few) (c .before .if1 .left) in omega (arith, h)
+add-e c = let h = lt-of-le-ne (c .before .before .field-at .ensures .few) (c .before .if1 .left) in omega (arith, h)
 
 mul-e : tie.Need-mul-e
-mul-e c = let h = below (c .before .before .field-at .result) (c .before .before .field-at .ensures .few) (c .before .if1 .left) in omega (arith, h)
+mul-e c = let h = lt-of-le-ne (c .before .before .field-at .ensures .few) (c .before .if1 .left) in omega (arith, h)
 
 shared-slice-read-e : tie.Need-shared-slice-read-e
-shared-slice-read-e c = let p = part (c .before .before .before .before .before .before .before .pre) (c .before .before .before .field-at .result) (below _ (c .before .before .before .field-at .ensures .few) (c .before .before .if1 .left)) in omega (arith, p .within)
+shared-slice-read-e c = let p = part (c .before .before .before .before .before .before .before .pre) (c .before .before .before .field-at .result) (lt-of-le-ne (c .before .before .before .field-at .ensures .few) (c .before .before .if1 .left)) in omega (arith, p .within)
 
 cast-e : tie.Need-cast-e
 cast-e c = omega (arith, c .before .before .before .before .before .shared-slice-known2 .given (c .before .before .before .field-at .result + 1))
 
 sub-value-at : tie.Need-sub-value-at
-sub-value-at c = part (c .before .before .before .before .before .before .before .pre) (c .before .before .before .field-at .result) (below _ (c .before .before .before .field-at .ensures .few) (c .before .before .if1 .left)) .order
+sub-value-at c = part (c .before .before .before .before .before .before .before .pre) (c .before .before .before .field-at .result) (lt-of-le-ne (c .before .before .before .field-at .ensures .few) (c .before .before .if1 .left)) .order
 
 add-value-at : tie.Need-add-value-at
 add-value-at c =
-    let h = below (c .before .before .before .field-at .result) (c .before .before .before .field-at .ensures .few) (c .before .before .if1 .left) in
+    let h = lt-of-le-ne (c .before .before .before .field-at .ensures .few) (c .before .before .if1 .left) in
     let p = part (c .before .before .before .before .before .before .before .pre) (c .before .before .before .field-at .result) h in
     let f = begins-fits (labelText (fieldOf (c .before .before .before .field-at .result))) (now (c .before .before .before .before .before .before .before .args .text)) (c .before .before .before .before .before .before .before .args .at) (c .before .before .before .field-at .ensures .stands h) (p .some-there) in
     omega (arith, p .size, f)
 
 value-at-requires : tie.Need-value-at-requires
-value-at-requires c κs = below _ (c .before .before .before .field-at .ensures .few) (c .before .before .if1 .left)
+value-at-requires c κs = lt-of-le-ne (c .before .before .before .field-at .ensures .few) (c .before .before .if1 .left)
 
 returns-2 : tie.Need-returns-2
 returns-2 c =
-    let h = below _ (c .before .before .before .before .before .before .field-at .ensures .few) (c .before .before .before .before .before .if1 .left) in
+    let h = lt-of-le-ne (c .before .before .before .before .before .before .field-at .ensures .few) (c .before .before .before .before .before .if1 .left) in
     let p = part (c .before .before .before .before .before .before .before .before .before .before .pre) (c .before .before .before .before .before .before .field-at .result) h in
     let text = now (c .before .before .before .before .before .before .before .before .before .before .args .text) in
     let r = subst (λ (n : ℕ). c .before .before .value-at .result ≡ readAt (c .before .before .before .before .before .before .before .before .before .before .args .at + n) (valueIn (fieldOf (c .before .before .before .before .before .before .field-at .result)) (drop (c .before .before .before .before .before .before .before .before .before .before .args .at + n) text))) (p .size) (c .before .before .value-at .ensures) in
@@ -64,7 +66,7 @@ returns-2 c =
 
 returns-3 : tie.Need-returns-3
 returns-3 c =
-    let h = below _ (c .before .before .before .before .before .before .before .before .before .before .field-at .ensures .few) (c .before .before .before .before .before .before .before .before .before .if1 .left) in
+    let h = lt-of-le-ne (c .before .before .before .before .before .before .before .before .before .before .field-at .ensures .few) (c .before .before .before .before .before .before .before .before .before .if1 .left) in
     let p = part (c .before .before .before .before .before .before .before .before .before .before .before .before .before .before .pre) (c .before .before .before .before .before .before .before .before .before .before .field-at .result) h in
     let text = now (c .before .before .before .before .before .before .before .before .before .before .before .before .before .before .args .text) in
     let r = subst (λ (n : ℕ). c .before .before .before .before .before .before .value-at .result ≡ readAt (c .before .before .before .before .before .before .before .before .before .before .before .before .before .before .args .at + n) (valueIn (fieldOf (c .before .before .before .before .before .before .before .before .before .before .field-at .result)) (drop (c .before .before .before .before .before .before .before .before .before .before .before .before .before .before .args .at + n) text))) (p .size) (c .before .before .before .before .before .before .value-at .ensures) in
@@ -77,7 +79,7 @@ add-t15 c =
 
 returns-4 : tie.Need-returns-4
 returns-4 c =
-    let h = below _ (c .before .before .before .before .before .before .before .before .before .before .field-at .ensures .few) (c .before .before .before .before .before .before .before .before .before .if1 .left) in
+    let h = lt-of-le-ne (c .before .before .before .before .before .before .before .before .before .before .field-at .ensures .few) (c .before .before .before .before .before .before .before .before .before .if1 .left) in
     let p = part (c .before .before .before .before .before .before .before .before .before .before .before .before .before .before .pre) (c .before .before .before .before .before .before .before .before .before .before .field-at .result) h in
     let text = now (c .before .before .before .before .before .before .before .before .before .before .before .before .before .before .args .text) in
     let r = subst (λ (n : ℕ). c .before .before .before .before .before .before .value-at .result ≡ readAt (c .before .before .before .before .before .before .before .before .before .before .before .before .before .before .args .at + n) (valueIn (fieldOf (c .before .before .before .before .before .before .before .before .before .before .field-at .result)) (drop (c .before .before .before .before .before .before .before .before .before .before .before .before .before .before .args .at + n) text))) (p .size) (c .before .before .before .before .before .before .value-at .ensures) in

@@ -4,7 +4,7 @@ use Prim.Native.Nat.{_-_}
 use native.Mathlib.Omega.{arith}
 use borrow.Author.Needs.{needs}
 use denote.Ref.{now}
-use lib.ListN.{length, getD}
+use lib.ListN.{length}
 use Rattle.sheet.proofs.Columns.{Putting, putting-first, next-known, putting-on, put-all}
 use Rattle.sheet.proofs.writing.rows.Statement.{statement}
 use Rattle.sheet.proofs.writing.rows.Tie as tie

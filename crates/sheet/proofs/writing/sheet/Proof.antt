@@ -2,8 +2,6 @@
 use mathlib.Core.Path.{sym}
 use native.Mathlib.Omega.{arith}
 use borrow.Author.Needs.{needs}
-use denote.Ref.{now}
-use lib.ListN.{length}
 use lib.Seq.{length-take-le}
 use Rattle.sheet.specs.Rows.{heading}
 use Rattle.sheet.proofs.Making.{few-listed, columns, wrote}
