@@ -6,10 +6,26 @@ use native.Mathlib.Omega.{arith}
 use borrow.Author.Needs.{needs}
 use denote.Ref.{now}
 use lib.Seq.{length-take-le}
+use Rattle.states.specs.Labels.{numbers}
+use Rattle.states.proofs.Writing.{Written}
 use Rattle.sheet.specs.Steps.{Other}
 use Rattle.sheet.proofs.Judgement.{label-refused, named-as, label-accepted, judges-refused, judges-named, judges-taken}
 use Rattle.sheet.proofs.reading.judge.Statement.{statement}
 use Rattle.sheet.proofs.reading.judge.Tie as tie
+
+-- what `label` accepted
+telegram : (c : tie.After-known-told2) → let b = c .before .before .before .before .before .before .before .before .before in
+    Written (now (b .args .values)) (c .before .n .given .0 .0)
+telegram c = label-accepted (c .before .before .before .before .label .ensures) (omega arith) (c .before .n .given .1)
+
+-- the first row with another name than is due
+other : (c : tie.After-other-name) → let b = c .before .before .before .before .before .before .before .before .before .before .before in
+    Other (now (b .args .fields)) (numbers (telegram (c .before .before) .entries)) (c .other-name .result)
+other c =
+    let b = c .before .before .before .before .before .before .before .before .before .before .before in
+    let w = telegram (c .before .before) in
+    let names = named-as (c .before .before .before .before .before .before .label .ensures) (omega arith) (w .entries) (w .is) in
+    subst (λ (l : List ℕ). Other (now (b .args .fields)) l (c .other-name .result)) names (c .other-name .ensures)
 
 slice-aggregate-label : tie.Need-slice-aggregate-label
 slice-aggregate-label c = search needs
@@ -34,16 +50,16 @@ other-name-requires c κs = c .before .before .before .before .before .before .b
 
 returns-2 : tie.Need-returns-2
 returns-2 c =
-    let w = label-accepted (c .before .before .before .before .before .before .before .label .ensures) (omega arith) (c .before .before .before .before .n .given .1) in
-    judges-named _ _ _ (c .before .before .before .before .before .before .before .before .before .before .before .before .pre .columns) (w .entries) (w .is) _ (subst (λ (l : List ℕ). Other (now (c .before .before .before .before .before .before .before .before .before .before .before .before .args .fields)) l (c .before .other-name .result)) (named-as (c .before .before .before .before .before .before .before .label .ensures) (omega arith) (w .entries) (w .is)) (c .before .other-name .ensures)) (c .if1 .taken)
+    let w = telegram (c .before .before .before) in
+    judges-named _ _ _ (c .before .before .before .before .before .before .before .before .before .before .before .before .pre .columns) (w .entries) (w .is) _ (other (c .before)) (c .if1 .taken)
 
 same-length : tie.Need-same-length
 same-length c = search needs
 
 returns-3 : tie.Need-returns-3
 returns-3 c =
-    let w = label-accepted (c .before .before .before .before .before .before .before .before .before .before .before .label .ensures) (omega arith) (c .before .before .before .before .before .before .before .before .n .given .1) in
-    judges-taken _ _ _ (c .before .before .before .before .before .before .before .before .before .before .before .before .before .before .before .before .pre .columns) (w .entries) (w .is) _ (subst (λ (l : List ℕ). Other (now (c .before .before .before .before .before .before .before .before .before .before .before .before .before .before .before .before .args .fields)) l (c .before .before .before .before .before .other-name .result)) (named-as (c .before .before .before .before .before .before .before .before .before .before .before .label .ensures) (omega arith) (w .entries) (w .is)) (c .before .before .before .before .before .other-name .ensures)) (c .before .before .before .before .if1 .left) (c .before .before .before .before .before .before .before .before .before .before .before .before .before .before .before .before .pre .room) (c .before .before .write .ensures) (w .size)
+    let w = telegram (c .before .before .before .before .before .before .before) in
+    judges-taken _ _ _ (c .before .before .before .before .before .before .before .before .before .before .before .before .before .before .before .before .pre .columns) (w .entries) (w .is) _ (other (c .before .before .before .before .before)) (c .before .before .before .before .if1 .left) (c .before .before .before .before .before .before .before .before .before .before .before .before .before .before .before .before .pre .room) (c .before .before .write .ensures) (w .size)
 
 label-requires : tie.Need-label-requires
 label-requires c κs = search needs

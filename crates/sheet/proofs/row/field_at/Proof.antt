@@ -1,6 +1,6 @@
 -- `sheet::row::field_at` meets its contract. The loop's invariant: no field before k has its label there. The measure is how many fields are
 -- left. Assumes nothing.
-use mathlib.Core.Path.{refl, sym, ap, _∙_}
+use mathlib.Core.Path.{_≡_, refl, sym, ap, _∙_}
 use mathlib.Core.List.{List}
 use Prim.Native.Nat.{ℕ, _+_, _-_}
 use native.Mathlib.Omega.{arith}
@@ -8,6 +8,7 @@ use borrow.Author.Needs.{needs}
 use denote.Ref.{now}
 use lib.ListN.{drop}
 use Rattle.pieces.specs.Pieces.{begins}
+use Rattle.sheet.specs.Rows.{labelText, fieldOf}
 use Rattle.sheet.proofs.Table.{part}
 use Rattle.sheet.proofs.Fronts.{Sought, sought-on, found-at, found-none}
 use Rattle.sheet.proofs.row.field_at.Statement.{statement}
@@ -18,6 +19,15 @@ Inv-loop labels starts text at k₀ k = Sought (drop at text) k
 
 abbrev μ-loop : tie.MeasureT-loop
 μ-loop labels starts text at k₀ k = 72 - k
+
+
+-- what is compared is the label of field k
+compared : (c : tie.After-begins Inv-loop μ-loop) → let l = c .before .before .before .before .before in let a = l .before .before .before .before .args in
+    begins (labelText (fieldOf (l .loop .k))) (drop (a .at) (now (a .text))) ≡ c .begins .result
+compared c =
+    let l = c .before .before .before .before .before in
+    let a = l .before .before .before .before .args in
+    ap (λ (x : List ℕ). begins x (drop (a .at) (now (a .text)))) (sym (part (l .before .before .before .before .pre) (l .loop .k) (omega arith) .is)) ∙ sym (c .begins .ensures)
 
 loop-holds : tie.Need-loop-holds Inv-loop μ-loop
 loop-holds c = (omega arith, refl)
@@ -44,14 +54,10 @@ part-begins-end : tie.Need-part-begins-end Inv-loop μ-loop
 part-begins-end c = part (c .before .before .before .before .before .before .before .pre) (c .before .before .before .loop .k) (omega arith) .inside
 
 returns : tie.Need-returns Inv-loop μ-loop
-returns c =
-    found-at _ (c .before .before .before .before .before .before .loop .k) (omega arith) (c .before .before .before .before .before .before .loop .inv)
-    (ap (λ (l : List ℕ). begins l (drop (c .before .before .before .before .before .before .before .before .before .before .args .at) (now (c .before .before .before .before .before .before .before .before .before .before .args .text)))) (sym (part (c .before .before .before .before .before .before .before .before .before .before .pre) (c .before .before .before .before .before .before .loop .k) (omega arith) .is)) ∙ sym (c .before .begins .ensures) ∙ c .if1 .taken)
+returns c = found-at _ (c .before .before .before .before .before .before .loop .k) (omega arith) (c .before .before .before .before .before .before .loop .inv) (compared (c .before) ∙ c .if1 .taken)
 
 loop-again : tie.Need-loop-again Inv-loop μ-loop
-loop-again c =
-    sought-on _ (c .before .before .before .before .before .before .loop .k) (omega arith) (c .before .before .before .before .before .before .loop .inv)
-    (ap (λ (l : List ℕ). begins l (drop (c .before .before .before .before .before .before .before .before .before .before .args .at) (now (c .before .before .before .before .before .before .before .before .before .before .args .text)))) (sym (part (c .before .before .before .before .before .before .before .before .before .before .pre) (c .before .before .before .before .before .before .loop .k) (omega arith) .is)) ∙ sym (c .before .begins .ensures) ∙ c .if1 .left)
+loop-again c = sought-on _ (c .before .before .before .before .before .before .loop .k) (omega arith) (c .before .before .before .before .before .before .loop .inv) (compared (c .before) ∙ c .if1 .left)
 
 returns-2 : tie.Need-returns-2 Inv-loop μ-loop
 returns-2 c = found-none _ (c .before .loop .k) (omega arith) (c .before .loop .inv)

@@ -46,9 +46,11 @@ put-value-requires c κs = c .before .before .before .before .before .before .be
 
 returns : tie.Need-returns
 returns c =
-    let p = part (c .before .before .before .before .before .before .before .before .before .before .before .before .before .before .before .before .before .before .before .pre .0) (c .before .before .before .before .before .before .before .before .before .before .before .before .before .before .before .before .before .before .before .args .k) (c .before .before .before .before .before .before .before .before .before .before .before .before .before .before .before .before .before .before .before .pre .1) in
-    let label = subst (λ (l : List ℕ). Appended (now (c .before .before .before .before .before .before .before .before .before .before .before .before .before .before .before .before .before .before .before .args .out)) (c .before .before .before .before .before .before .before .before .before .before .before .before .before .before .before .before .before .before .before .args .at) l (c .before .before .before .before .before .before .before .before .before .before .before .append .result) (c .before .before .before .before .before .before .before .before .before .before .before .append .last .0)) (p .is) (c .before .before .before .before .before .before .before .before .before .before .before .append .ensures) in
-    row-put p (c .before .before .before .before .before .before .before .before .before .before .before .before .before .before .before .before .before .before .before .args .v) label (c .before .before .before .before .before .before .before .put-value .ensures) (c .before .before .append2 .ensures)
+    let a = c .before .before .before .before .before .before .before .before .before .before .before .before .before .before .before .before .before .before .before .args in
+    let first = c .before .before .before .before .before .before .before .before .before .before .before in
+    let p = part (c .before .before .before .before .before .before .before .before .before .before .before .before .before .before .before .before .before .before .before .pre .0) (a .k) (c .before .before .before .before .before .before .before .before .before .before .before .before .before .before .before .before .before .before .before .pre .1) in
+    let label = subst (λ (l : List ℕ). Appended (now (a .out)) (a .at) l (first .append .result) (first .append .last .0)) (p .is) (first .append .ensures) in
+    row-put p (a .v) label (c .before .before .before .before .before .before .before .put-value .ensures) (c .before .before .append2 .ensures)
 
 append-requires : tie.Need-append-requires
 append-requires c κs = search needs

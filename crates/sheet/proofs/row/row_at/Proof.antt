@@ -1,20 +1,37 @@
 -- `sheet::row::row_at` meets its contract: a label, the value behind it, and CRLF behind that. Assumes nothing.
 use mathlib.Core.Path.{_≡_, sym, _∙_, subst}
-use Prim.Native.Nat.{ℕ, _+_}
+use Prim.Native.Nat.{ℕ, _+_, _<_}
 use native.Mathlib.Omega.{arith}
 use borrow.Author.Needs.{needs}
 use borrow.Author.Tests.{not-true, not-false}
 use denote.Ref.{now}
 use lib.Arith.{lt-of-le-ne}
-use lib.ListN.{drop}
+use lib.ListN.{length, drop}
 use Rattle.pieces.specs.Numbers.{readAt}
 use Rattle.sheet.specs.Rows.{crlf, labelText, fieldOf}
 use Rattle.sheet.specs.Reading.{valueIn}
-use Rattle.sheet.proofs.Table.{part}
-use Rattle.sheet.proofs.Fronts.{begins-fits, size, row-nameless, row-valueless, valued-at, row-open, row-whole}
+use Rattle.sheet.proofs.Table.{Part, part}
+use Rattle.sheet.proofs.Fronts.{begins-fits, row-nameless, row-valueless, valued-at, row-open, row-whole}
 use Rattle.sheet.proofs.row.row_at.Statement.{statement}
 use Rattle.sheet.proofs.row.row_at.Tie as tie
 
+
+-- behind the first test: one of the 72 fields, and its label
+known : (c : tie.Else1) → c .before .field-at .result < 72
+known c = lt-of-le-ne (c .before .field-at .ensures .few) (c .if1 .left)
+
+its-part : (c : tie.Else1) → let a = c .before .before .before .before .before .args in Part (now (a .labels)) (now (a .starts)) (c .before .field-at .result)
+its-part c = part (c .before .before .before .before .before .pre) (c .before .field-at .result) (known c)
+
+-- the value is read behind the label
+value-is : (c : tie.After-value-at) → let k = c .before .before .before .before .field-at .result in
+    let a = c .before .before .before .before .before .before .before .before .args in
+    c .value-at .result
+    ≡ readAt (a .at + length (labelText (fieldOf k))) (valueIn (fieldOf k) (drop (a .at + length (labelText (fieldOf k))) (now (a .text))))
+value-is c =
+    let k = c .before .before .before .before .field-at .result in
+    let a = c .before .before .before .before .before .before .before .before .args in
+    subst (λ (n : ℕ). c .value-at .result ≡ readAt (a .at + n) (valueIn (fieldOf k) (drop (a .at + n) (now (a .text))))) (its-part (c .before .before .before) .size) (c .value-at .ensures)
 
 field-at-requires : tie.Need-field-at-requires
 field-at-requires c κs = c .before .before .before .pre
@@ -23,54 +40,50 @@ returns : tie.Need-returns
 returns c = sym (row-nameless (now (c .before .before .before .before .before .args .text)) (c .before .before .before .before .before .args .at) _ (c .before .field-at .ensures) (c .if1 .taken))
 
 mul-a : tie.Need-mul-a
-mul-a c = let h = lt-of-le-ne (c .before .field-at .ensures .few) (c .if1 .left) in omega (arith, h)
+mul-a c = omega (arith, known (c))
 
 shared-slice-read-a : tie.Need-shared-slice-read-a
-shared-slice-read-a c = let p = part (c .before .before .before .before .before .before .pre) (c .before .before .field-at .result) (lt-of-le-ne (c .before .before .field-at .ensures .few) (c .before .if1 .left)) in omega (arith, p .within)
+shared-slice-read-a c = omega (arith, its-part (c .before) .within)
 
 cast-a : tie.Need-cast-a
 cast-a c = omega (arith, c .before .before .before .before .shared-slice-known2 .given (c .before .before .field-at .result))
 
 add-e : tie.Need-add-e
-add-e c = let h = lt-of-le-ne (c .before .before .field-at .ensures .few) (c .before .if1 .left) in omega (arith, h)
+add-e c = omega (arith, known (c .before))
 
 mul-e : tie.Need-mul-e
-mul-e c = let h = lt-of-le-ne (c .before .before .field-at .ensures .few) (c .before .if1 .left) in omega (arith, h)
+mul-e c = omega (arith, known (c .before))
 
 shared-slice-read-e : tie.Need-shared-slice-read-e
-shared-slice-read-e c = let p = part (c .before .before .before .before .before .before .before .pre) (c .before .before .before .field-at .result) (lt-of-le-ne (c .before .before .before .field-at .ensures .few) (c .before .before .if1 .left)) in omega (arith, p .within)
+shared-slice-read-e c = omega (arith, its-part (c .before .before) .within)
 
 cast-e : tie.Need-cast-e
 cast-e c = omega (arith, c .before .before .before .before .before .shared-slice-known2 .given (c .before .before .before .field-at .result + 1))
 
 sub-value-at : tie.Need-sub-value-at
-sub-value-at c = part (c .before .before .before .before .before .before .before .pre) (c .before .before .before .field-at .result) (lt-of-le-ne (c .before .before .before .field-at .ensures .few) (c .before .before .if1 .left)) .order
+sub-value-at c = its-part (c .before .before) .order
 
 add-value-at : tie.Need-add-value-at
 add-value-at c =
-    let h = lt-of-le-ne (c .before .before .before .field-at .ensures .few) (c .before .before .if1 .left) in
-    let p = part (c .before .before .before .before .before .before .before .pre) (c .before .before .before .field-at .result) h in
-    let f = begins-fits (labelText (fieldOf (c .before .before .before .field-at .result))) (now (c .before .before .before .before .before .before .before .args .text)) (c .before .before .before .before .before .before .before .args .at) (c .before .before .before .field-at .ensures .stands h) (p .some-there) in
+    let p = its-part (c .before .before) in
+    let f = begins-fits (labelText (fieldOf (c .before .before .before .field-at .result))) (now (c .before .before .before .before .before .before .before .args .text)) (c .before .before .before .before .before .before .before .args .at) (c .before .before .before .field-at .ensures .stands (known (c .before .before))) (p .some-there) in
     omega (arith, p .size, f)
 
 value-at-requires : tie.Need-value-at-requires
-value-at-requires c κs = lt-of-le-ne (c .before .before .before .field-at .ensures .few) (c .before .before .if1 .left)
+value-at-requires c κs = known (c .before .before)
 
 returns-2 : tie.Need-returns-2
 returns-2 c =
-    let h = lt-of-le-ne (c .before .before .before .before .before .before .field-at .ensures .few) (c .before .before .before .before .before .if1 .left) in
-    let p = part (c .before .before .before .before .before .before .before .before .before .before .pre) (c .before .before .before .before .before .before .field-at .result) h in
-    let text = now (c .before .before .before .before .before .before .before .before .before .before .args .text) in
-    let r = subst (λ (n : ℕ). c .before .before .value-at .result ≡ readAt (c .before .before .before .before .before .before .before .before .before .before .args .at + n) (valueIn (fieldOf (c .before .before .before .before .before .before .field-at .result)) (drop (c .before .before .before .before .before .before .before .before .before .before .args .at + n) text))) (p .size) (c .before .before .value-at .ensures) in
-    sym (row-valueless text (c .before .before .before .before .before .before .before .before .before .before .args .at) _ (c .before .before .before .before .before .before .field-at .ensures) h _ r (c .enum-told .given .1))
+    let e = c .before .before .before .before .before in
+    sym (row-valueless _ _ _ (e .before .field-at .ensures) (known e) _ (value-is (c .before .before)) (c .enum-told .given .1))
 
 returns-3 : tie.Need-returns-3
 returns-3 c =
-    let h = lt-of-le-ne (c .before .before .before .before .before .before .before .before .before .before .field-at .ensures .few) (c .before .before .before .before .before .before .before .before .before .if1 .left) in
-    let p = part (c .before .before .before .before .before .before .before .before .before .before .before .before .before .before .pre) (c .before .before .before .before .before .before .before .before .before .before .field-at .result) h in
-    let text = now (c .before .before .before .before .before .before .before .before .before .before .before .before .before .before .args .text) in
-    let r = subst (λ (n : ℕ). c .before .before .before .before .before .before .value-at .result ≡ readAt (c .before .before .before .before .before .before .before .before .before .before .before .before .before .before .args .at + n) (valueIn (fieldOf (c .before .before .before .before .before .before .before .before .before .before .field-at .result)) (drop (c .before .before .before .before .before .before .before .before .before .before .before .before .before .before .args .at + n) text))) (p .size) (c .before .before .before .before .before .before .value-at .ensures) in
-    sym (row-open text (c .before .before .before .before .before .before .before .before .before .before .before .before .before .before .args .at) _ (c .before .before .before .before .before .before .before .before .before .before .field-at .ensures) h _ r (valued-at text (c .before .before .before .before .before .before .before .before .before .before .before .before .before .before .args .at) _ (c .before .before .before .before .before .before .before .before .before .before .field-at .ensures) h _ r (c .before .before .before .before .v .given .1)) (sym (c .before .begins .ensures) ∙ not-true _ (c .if2 .taken)))
+    let e = c .before .before .before .before .before .before .before .before .before in
+    let v = value-is (c .before .before .before .before .before .before) in
+    sym
+    (row-open _ _ _ (e .before .field-at .ensures) (known e) _ v (valued-at _ _ _ (e .before .field-at .ensures) (known e) _ v (c .before .before .before .before .v .given .1))
+    (sym (c .before .begins .ensures) ∙ not-true _ (c .if2 .taken)))
 
 add-t15 : tie.Need-add-t15
 add-t15 c =
@@ -79,11 +92,11 @@ add-t15 c =
 
 returns-4 : tie.Need-returns-4
 returns-4 c =
-    let h = lt-of-le-ne (c .before .before .before .before .before .before .before .before .before .before .field-at .ensures .few) (c .before .before .before .before .before .before .before .before .before .if1 .left) in
-    let p = part (c .before .before .before .before .before .before .before .before .before .before .before .before .before .before .pre) (c .before .before .before .before .before .before .before .before .before .before .field-at .result) h in
-    let text = now (c .before .before .before .before .before .before .before .before .before .before .before .before .before .before .args .text) in
-    let r = subst (λ (n : ℕ). c .before .before .before .before .before .before .value-at .result ≡ readAt (c .before .before .before .before .before .before .before .before .before .before .before .before .before .before .args .at + n) (valueIn (fieldOf (c .before .before .before .before .before .before .before .before .before .before .field-at .result)) (drop (c .before .before .before .before .before .before .before .before .before .before .before .before .before .before .args .at + n) text))) (p .size) (c .before .before .before .before .before .before .value-at .ensures) in
-    sym (row-whole text (c .before .before .before .before .before .before .before .before .before .before .before .before .before .before .args .at) _ (c .before .before .before .before .before .before .before .before .before .before .field-at .ensures) h _ r (valued-at text (c .before .before .before .before .before .before .before .before .before .before .before .before .before .before .args .at) _ (c .before .before .before .before .before .before .before .before .before .before .field-at .ensures) h _ r (c .before .before .before .before .v .given .1)) (sym (c .before .begins .ensures) ∙ not-false _ (c .if2 .left)))
+    let e = c .before .before .before .before .before .before .before .before .before in
+    let v = value-is (c .before .before .before .before .before .before) in
+    sym
+    (row-whole _ _ _ (e .before .field-at .ensures) (known e) _ v (valued-at _ _ _ (e .before .field-at .ensures) (known e) _ v (c .before .before .before .before .v .given .1))
+    (sym (c .before .begins .ensures) ∙ not-false _ (c .if2 .left)))
 
 enum-known-v : tie.Need-enum-known-v
 enum-known-v c = omega arith

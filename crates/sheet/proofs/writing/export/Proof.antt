@@ -1,5 +1,6 @@
 -- `sheet::writing::export` meets its contract: room, then the reader's answer; only what it accepted is written. Assumes nothing.
 use mathlib.Core.Path.{sym}
+use Prim.Native.Nat.{_≤_}
 use native.Mathlib.Omega.{arith}
 use borrow.Author.Needs.{needs}
 use denote.Ref.{now}
@@ -20,12 +21,18 @@ enum-known-r c = search needs
 enum-known-count : tie.Need-enum-known-count
 enum-known-count c = search needs
 
+-- no more values than the run has
+few : (c : tie.After-known-told2) → c .before .count .given .0 .0 ≤ 830
+few c =
+    let r = c .before .before .before .before in
+    let a = r .before .before .before .before .before .args in
+    few-read (now (a .s)) (a .n) (now (a .text)) (r .before .before .if1 .left) (r .read .ensures) (omega arith) (c .before .count .given .1)
+
 array-share-prefix-values : tie.Need-array-share-prefix-values
-array-share-prefix-values c = omega (arith, few-read (now (c .before .before .before .before .before .before .before .before .before .args .s)) (c .before .before .before .before .before .before .before .before .before .args .n) (now (c .before .before .before .before .before .before .before .before .before .args .text)) (c .before .before .before .before .before .before .if1 .left) (c .before .before .before .before .read .ensures) (omega arith) (c .before .count .given .1))
+array-share-prefix-values c = omega (arith, few (c))
 
 slice-aggregate-sheet : tie.Need-slice-aggregate-sheet
-slice-aggregate-sheet c =
-    sym (length-take-le _ _ (omega (arith, few-read (now (c .before .before .before .before .before .before .before .before .before .before .args .s)) (c .before .before .before .before .before .before .before .before .before .before .args .n) (now (c .before .before .before .before .before .before .before .before .before .before .args .text)) (c .before .before .before .before .before .before .before .if1 .left) (c .before .before .before .before .before .read .ensures) (omega arith) (c .before .before .count .given .1))))
+slice-aggregate-sheet c = sym (length-take-le _ _ (omega (arith, few (c .before))))
 
 sheet-requires : tie.Need-sheet-requires
 sheet-requires c κs = listing _ _ _ (c .before .before .before .before .before .before .before .before .if1 .left) (c .before .before .before .before .before .before .read .ensures) (omega arith) (c .before .before .before .count .given .1)
