@@ -6,11 +6,11 @@ use mathlib.Core.Option.{Option, some, none}
 use Prim.Native.Nat.{ℕ, suc, _+_, _≤_, _<_}
 use native.Mathlib.Numerals.{add-one}
 use native.Mathlib.Omega.{arith}
-use borrow.Author.Tests.{lt-ltb, eq-eqb, ne-eqb}
+use borrow.Author.Tests.{lt-ltb}
 use lib.ListN.{length, drop, length-append, length-drop, drop-of-length-le}
 use lib.Seq.{drop-cons, drop-drop}
 use Rattle.pieces.specs.Pieces.{begins}
-use Rattle.pieces.specs.Numbers.{Found, readAt, decimalIn, sixteenIn}
+use Rattle.pieces.specs.Numbers.{Found, readAt}
 use Rattle.pieces.specs.declared.Number.{Number}
 use Rattle.pieces.specs.declared.Number.the-variants.{Read, Not}
 use Rattle.pieces.proofs.Starts.{begins-is}
@@ -19,7 +19,7 @@ use Rattle.sheet.specs.Rows.{crlf, labelText, fieldOf}
 use Rattle.sheet.specs.Reading.{Row, row, labelIn, valueIn, closed, valued, rowIn}
 use Rattle.sheet.specs.Steps.{rowAt, Labelled}
 use Rattle.sheet.specs.declared.row.Row.the-variants.{Is, Bad}
-use Rattle.sheet.proofs.Table.{length-fields, radio-is}
+use Rattle.sheet.proofs.Table.{length-fields}
 
 -- a text that begins with a piece from at on has room for it
 pub begins-fits : (piece text : List ℕ) (at : ℕ) → begins piece (drop at text) ≡ true → 1 ≤ length piece → at + length piece ≤ length text
@@ -54,14 +54,6 @@ module _ (text : List ℕ) where
         is = s .1 ∙ ap (λ (l : List _). labelIn k l text) (drop-of-length-le fields {i = k} (rw length-fields h));
         stands = λ l. absurd (omega arith);
       }
-
--- ---- the value
-
-pub value-radio : (k : ℕ) (text : List ℕ) → k < 72 → k ≡ 35 → valueIn (fieldOf k) text ≡ sixteenIn text
-value-radio k text h e = rw (radio-is k h, eq-eqb k 35 e)
-
-pub value-other : (k : ℕ) (text : List ℕ) → k < 72 → (k ≡ 35 → ⊥) → valueIn (fieldOf k) text ≡ decimalIn text
-value-other k text h n = rw (radio-is k h, ne-eqb k 35 n)
 
 -- ---- the row
 

@@ -1,11 +1,12 @@
 -- The labels of the rows as the code keeps them are those of the fields: each a test that the checker computes over all of them. Assumes
 -- nothing.
 use mathlib.Core.Path.{_≡_, refl, sym, ap, _∙_, subst}
-use mathlib.Core.Bool.{Bool}
+use mathlib.Core.Bool.{Bool, true, false}
 use mathlib.Core.List.{List, map}
 use Prim.Native.Nat.{ℕ, suc, _+_, _-_, _<_, _≤_}
 use native.Mathlib.Numerals.{add-one}
 use native.Mathlib.Omega.{arith}
+use borrow.Author.Tests.{eq-eqb, ne-eqb}
 use lib.Dec.{T, eqb, eqb→eq, leb, leb→le}
 use lib.ListN.{length, take, drop, getD, List·getD-map}
 use Rattle.format.specs.Fields.{Field, fields, END}
@@ -33,8 +34,14 @@ pub number-of : (k : ℕ) → k < 72 → fieldOf k .number ≡ k
 unfolding fields
 number-of k h = eqb→eq _ _ (field-law (λ i f. eqb (f .number) i) tt k h)
 
-pub radio-is : (k : ℕ) → k < 72 → isRadio (fieldOf k) ≡ eqb k 35
+radio-is : (k : ℕ) → k < 72 → isRadio (fieldOf k) ≡ eqb k 35
 radio-is k h = ap (λ (n : ℕ). eqb n 35) (number-of k h)
+
+pub a-radio : (k : ℕ) → k < 72 → k ≡ 35 → isRadio (fieldOf k) ≡ true
+a-radio k h e = radio-is k h ∙ eq-eqb k 35 e
+
+pub no-radio : (k : ℕ) → k < 72 → (k ≡ 35 → ⊥) → isRadio (fieldOf k) ≡ false
+no-radio k h n = radio-is k h ∙ ne-eqb k 35 n
 
 -- where a label begins and ends
 abbrev pub begin : ℕ → ℕ

@@ -2,9 +2,8 @@
 use mathlib.Core.Path.{_≡_, sym, ap, _∙_, subst}
 use mathlib.Core.Bool.{Bool, true, false, cond}
 use mathlib.Core.List.{List, _++_, append-assoc}
-use Prim.Native.Nat.{ℕ, _+_, _≤_, _<_}
+use Prim.Native.Nat.{ℕ, _+_, _≤_}
 use native.Mathlib.Omega.{arith}
-use borrow.Author.Tests.{eq-eqb, ne-eqb}
 use lib.Dec.{eqb}
 use lib.ListN.{length, length-append}
 use Rattle.pieces.specs.Numbers.{decimal, sixteen}
@@ -14,13 +13,7 @@ use Rattle.pieces.proofs.Decimals.{length-decimal}
 use Rattle.pieces.proofs.Sixteens.{length-sixteen}
 use Rattle.sheet.specs.Rows.{crlf, labelText, valueText, rowText, fieldOf, entryOf}
 use Rattle.sheet.specs.Steps.{RowPut}
-use Rattle.sheet.proofs.Table.{radio-is, Part}
-
-pub text-radio : (k v : ℕ) → k < 72 → k ≡ 35 → valueText (fieldOf k) v ≡ sixteen v
-text-radio k v h e = rw (radio-is k h, eq-eqb k 35 e)
-
-pub text-other : (k v : ℕ) → k < 72 → (k ≡ 35 → ⊥) → valueText (fieldOf k) v ≡ decimal v
-text-other k v h n = rw (radio-is k h, ne-eqb k 35 n)
+use Rattle.sheet.proofs.Table.{Part}
 
 -- a value takes at most 20 characters
 value-few : (k v : ℕ) → length (valueText (fieldOf k) v) ≤ 20

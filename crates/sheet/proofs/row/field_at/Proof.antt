@@ -20,7 +20,6 @@ Inv-loop labels starts text at k₀ k = Sought (drop at text) k
 abbrev μ-loop : tie.MeasureT-loop
 μ-loop labels starts text at k₀ k = 72 - k
 
-
 -- what is compared is the label of field k
 compared : (c : tie.After-begins Inv-loop μ-loop) → let l = c .before .before .before .before .before in let a = l .before .before .before .before .args in
     begins (labelText (fieldOf (l .loop .k))) (drop (a .at) (now (a .text))) ≡ c .begins .result

@@ -1,14 +1,14 @@
 -- `sheet::row::put_value` meets its contract. Assumes nothing.
 use borrow.Author.Needs.{needs}
-use Rattle.sheet.proofs.Texts.{text-radio, text-other}
+use Rattle.sheet.proofs.Table.{a-radio, no-radio}
 use Rattle.sheet.proofs.row.put_value.Statement.{statement}
 use Rattle.sheet.proofs.row.put_value.Tie as tie
 
 returns : tie.Need-returns
-returns c = rw (text-radio (c .before .before .before .before .before .before .args .k) (c .before .before .before .before .before .before .args .v) (c .before .before .before .before .before .before .pre) (c .before .before .before .before .if1 .taken)) (c .before .before .append-places .ensures)
+returns c = rw (a-radio (c .before .before .before .before .before .before .args .k) (c .before .before .before .before .before .before .pre) (c .before .before .before .before .if1 .taken)) (c .before .before .append-places .ensures)
 
 returns-2 : tie.Need-returns-2
-returns-2 c = rw (text-other (c .before .before .before .before .before .before .args .k) (c .before .before .before .before .before .before .args .v) (c .before .before .before .before .before .before .pre) (c .before .before .before .before .if1 .left)) (c .before .before .append-decimal .ensures)
+returns-2 c = rw (no-radio (c .before .before .before .before .before .before .args .k) (c .before .before .before .before .before .before .pre) (c .before .before .before .before .if1 .left)) (c .before .before .append-decimal .ensures)
 
 append-places-requires : tie.Need-append-places-requires
 append-places-requires c κs = search needs

@@ -15,7 +15,6 @@ use Rattle.sheet.proofs.Fronts.{begins-fits, row-nameless, row-valueles
 use Rattle.sheet.proofs.row.row_at.Statement.{statement}
 use Rattle.sheet.proofs.row.row_at.Tie as tie
 
-
 -- behind the first test: one of the 72 fields, and its label
 known : (c : tie.Else1) → c .before .field-at .result < 72
 known c = lt-of-le-ne (c .before .field-at .ensures .few) (c .if1 .left)
