@@ -32,7 +32,7 @@ unfolding digitsFrom
 digits-end text v n i h = rw (drop-of-length-le text {i = i} h)
 
 -- more digits make no smaller number
-digits-grow : (text : List ℕ) (v n : ℕ) → v ≤ digitsFrom v n text .value
+pub digits-grow : (text : List ℕ) (v n : ℕ) → v ≤ digitsFrom v n text .value
 unfolding digitsFrom
 digits-grow [] v n = omega arith
 digits-grow (c ∷ text) v n = by (isDigit c) (digits-grow text (10 * v + (c - 48)) (suc n))

@@ -1,4 +1,4 @@
--- What the program reads of its input is enough for its answer: 832 bytes of a line, and 65,536 of a sheet. Assumes nothing.
+-- What the program reads of its input is enough for its answer: 832 bytes of a line, and 35,712 of a sheet, or more. Assumes nothing.
 use mathlib.Core.Path.{_≡_, refl, sym, ap, _∙_}
 use mathlib.Core.Bool.{Bool, true, false, cond, _&&_}
 use mathlib.Core.List.{List, [], _∷_}
@@ -9,15 +9,18 @@ use native.Mathlib.Nat.{le-trans, lt-of-not-le}
 use native.Mathlib.Decide.{decLe}
 use native.Mathlib.Omega.{arith}
 use borrow.Author.Tests.{leb-true, eqb-false, le-ltb}
+use lib.Arith.{lt-of-le-ne}
 use lib.Dec.{eqb, leb}
 use lib.ListN.{length, take, drop, getD}
 use lib.Seq.{take-all, take-nil, length-take-le}
 use Rattle.format.specs.Fields.{Field, fields, END}
 use Rattle.format.specs.Rules.{paper}
 use Rattle.format.specs.declared.Kind.the-variants.{Size}
+use Rattle.laws.proofs.Told.{and-two}
 use Rattle.pieces.specs.Numbers.{Found, digitsOf, isDigit, digitsFrom, bounded, decimalIn, isPlace, placeOf, placesFrom, counted, sixteenIn}
 use Rattle.pieces.specs.Pieces.{begins}
-use Rattle.pieces.proofs.Decimals.{digit-bounds, from-digit, decimal-is}
+use Rattle.pieces.proofs.Decimals.{digit-bounds, from-digit, decimal-is, length-decimal}
+use Rattle.pieces.proofs.Loops.{digits-grow}
 use Rattle.pieces.proofs.Sixteens.{length-sixteen, sixteen-is}
 use Rattle.sheet.specs.Rows.{crlf, heading, labelText, isRadio, fieldOf, entryOf}
 use Rattle.sheet.specs.Reading.{Row, labelIn, valueIn, closed, valued, rowIn, Rows, above, onRow, rowsIn, sheetIn}
@@ -25,7 +28,6 @@ use Rattle.sheet.specs.Sheets.{onSheet, imported}
 use Rattle.states.specs.Reader.{atOnce}
 use Rattle.sheets.specs.Printed.{lineLength, sheetOr, outText, lineOr, inText}
 use Rattle.sheets.proofs.Lines.{line-few, line-many, long-refused}
-use Rattle.sheets.proofs.Texts.{decimal-few}
 
 -- ---- a line
 
@@ -38,15 +40,15 @@ long-out input h =
     let l : length (take (lineLength input) input) ≡ lineLength input = length-take-le (lineLength input) input few in
     ap sheetOr (long-refused (take (lineLength input) input) (omega (arith, l, many)))
 
-pub out-kept : (input : List ℕ) → outText (take 832 input) ≡ outText input
-out-kept input = by (decLe (length input) 832)
+pub out-kept : (input : List ℕ) (m : ℕ) → 832 ≤ m → outText (take m input) ≡ outText input
+out-kept input m h = by (decLe (length input) m)
   where
-    by : Dec (length input ≤ 832) → outText (take 832 input) ≡ outText input
-    by (yes h) = ap outText (take-all 832 input h)
-    by (no h) =
-        let g = lt-of-not-le h in
-        let l : length (take 832 input) ≡ 832 = length-take-le 832 input (omega arith) in
-        long-out (take 832 input) (omega (arith, l)) ∙ sym (long-out input (omega arith))
+    by : Dec (length input ≤ m) → outText (take m input) ≡ outText input
+    by (yes g) = ap outText (take-all m input g)
+    by (no g) =
+        let more = lt-of-not-le g in
+        let l : length (take m input) ≡ m = length-take-le m input (omega arith) in
+        long-out (take m input) (omega (arith, l)) ∙ sym (long-out input (omega arith))
 
 -- ---- a piece of text
 
@@ -82,23 +84,13 @@ zeros-least zero (suc j) v w h l = zeros-least zero j v (10 * w) (omega arith) (
 zeros-least (suc i) zero v w h l = absurd (omega arith)
 zeros-least (suc i) (suc j) v w h l = zeros-least i j (10 * v) (10 * w) (omega arith) (omega arith)
 
-value-grows : (text : List ℕ) (v n : ℕ) → v ≤ digitsFrom v n text .value
-unfolding digitsFrom
-value-grows [] v n = omega arith
-value-grows (c ∷ text) v n = by (isDigit c) (value-grows text (10 * v + (c - 48)) (suc n))
-  where
-    by : (b : Bool) → 10 * v + (c - 48) ≤ digitsFrom (10 * v + (c - 48)) (suc n) text .value
-        → v ≤ cond b (digitsFrom (10 * v + (c - 48)) (suc n) text) (record { value = v; count = n }) .value
-    by true h = omega arith
-    by false h = omega arith
-
 -- the digits end within j characters, or there are so many
 abbrev Either : ℕ → ℕ → Found → Found → Type 0
 Either j v x y = (x ≡ y) ⊎ ((zeros j v ≤ x .value) × (zeros j v ≤ y .value))
 
 digits-take : (text : List ℕ) (j v n : ℕ) → Either j v (digitsFrom v n (take j text)) (digitsFrom v n text)
 unfolding digitsFrom
-digits-take text zero v n = inr (omega arith, value-grows text v n)
+digits-take text zero v n = inr (omega arith, digits-grow text v n)
 digits-take [] (suc j) v n = inl refl
 digits-take (c ∷ text) (suc j) v n = by (isDigit c) (digits-take text j (10 * v + (c - 48)) (suc n))
   where
@@ -125,13 +117,6 @@ bounded-take text j v h l =
     large : 2 ^ 64 ≤ zeros j v
     large = let least : 100000000000000000000 ≤ zeros j v = zeros-least 20 j 1 v h l in omega (arith, least)
 
-positive : (c : ℕ) → 48 ≤ c → (c ≡ 48 → ⊥) → 0 < 10 * 0 + (c - 48)
-positive c l d = at (decLe c 48)
-  where
-    at : Dec (c ≤ 48) → 0 < 10 * 0 + (c - 48)
-    at (yes g) = absurd (d (omega arith))
-    at (no g) = let k = lt-of-not-le g in omega arith
-
 decimal-take : (text : List ℕ) (j : ℕ) → 21 ≤ j → decimalIn (take j text) ≡ decimalIn text
 unfolding decimalIn
 decimal-take text zero h = absurd (omega arith)
@@ -147,10 +132,9 @@ decimal-take (c ∷ text) (suc j) h = by (eqb c 48) (isDigit c) refl refl
     by true q x y = refl
     by false false x y = refl
     by false true x y =
-        let b = digit-bounds c y in
-        let other = eqb-false c 48 x in
+        let above : 48 < c = lt-of-le-ne (digit-bounds c y .0) (λ e. eqb-false c 48 x (sym e)) in
         ap bounded (from-digit 0 0 c (take j text) y)
-        ∙ bounded-take text j (10 * 0 + (c - 48)) (omega arith) (positive c (b .0) other)
+        ∙ bounded-take text j (10 * 0 + (c - 48)) (omega arith) (omega arith)
         ∙ sym (ap bounded (from-digit 0 0 c text y))
 
 places-take : (text : List ℕ) (k v j : ℕ) → k ≤ j → placesFrom k v (take j text) ≡ placesFrom k v text
@@ -175,7 +159,7 @@ value-few f text x = by (isRadio f)
   where
     by : (b : Bool) → cond b (sixteenIn text) (decimalIn text) ≡ some x → x .count ≤ 20
     by true e = let w = sixteen-is text x e in omega (arith, w .count, length-sixteen (x .value))
-    by false e = let w = decimal-is text x e in omega (arith, w .count, decimal-few 20 (x .value))
+    by false e = let w = decimal-is text x e in omega (arith, w .count, length-decimal 20 (x .value))
 
 -- ---- a label takes 21 at most
 
@@ -191,19 +175,15 @@ short-END : length (labelText END) ≤ 21
 unfolding labelText digitsOf
 short-END = omega arith
 
-both : (p q : Bool) → (p && q) ≡ true → (p ≡ true) × (q ≡ true)
-both true q e = (refl, e)
-both false q e = let z : _≡_ {A = ℕ} 0 1 = cc in absurd (omega arith)
-
 short-at : (fs : List Field) (k : ℕ) → short fs ≡ true → length (labelText (getD fs k END)) ≤ 21
 short-at [] k e = short-END
-short-at (f ∷ fs) zero e = leb-true (length (labelText f)) 21 (both (leb (length (labelText f)) 21) (short fs) e .0)
-short-at (f ∷ fs) (suc k) e = short-at fs k (both (leb (length (labelText f)) 21) (short fs) e .1)
+short-at (f ∷ fs) zero e = leb-true (length (labelText f)) 21 (and-two (leb (length (labelText f)) 21) (short fs) e .0)
+short-at (f ∷ fs) (suc k) e = short-at fs k (and-two (leb (length (labelText f)) 21) (short fs) e .1)
 
 label-take : (fs : List Field) (k : ℕ) (text : List ℕ) (m : ℕ) → short fs ≡ true → 21 ≤ m → labelIn k fs (take m text) ≡ labelIn k fs text
 label-take [] k text m e h = refl
 label-take (f ∷ fs) k text m e h =
-    let b = both (leb (length (labelText f)) 21) (short fs) e in
+    let b = and-two (leb (length (labelText f)) 21) (short fs) e in
     let l = leb-true (length (labelText f)) 21 (b .0) in
     rw (begins-take (labelText f) text m (omega (arith, l)), label-take fs (suc k) text m (b .1) h)
 
@@ -277,11 +257,11 @@ rows-take (suc left) n (suc m) (c ∷ text) h =
         (ap (rowsIn left (suc n)) (drop-take (r .count) (suc m) (c ∷ text))
         ∙ rest (suc m - r .count) (r .count) (omega (arith, few)))
 
-sheet-take : (text : List ℕ) → sheetIn (take 65536 text) ≡ sheetIn text
+sheet-take : (text : List ℕ) (m : ℕ) → 35712 ≤ m → sheetIn (take m text) ≡ sheetIn text
 unfolding sheetIn heading
-sheet-take text =
-    rw (begins-take heading text 65536 (omega arith), drop-take 21 65536 text, rows-take 830 0 65515 (drop 21 text) (omega arith))
+sheet-take text m h =
+    rw (begins-take heading text m (omega arith), drop-take 21 m text, rows-take 830 0 (m - 21) (drop 21 text) (omega arith))
 
-pub in-kept : (input : List ℕ) → inText (take 65536 input) ≡ inText input
+pub in-kept : (input : List ℕ) (m : ℕ) → 35712 ≤ m → inText (take m input) ≡ inText input
 unfolding inText imported
-in-kept input = ap (λ (r : Rows). lineOr (onSheet paper r)) (sheet-take input)
+in-kept input m h = ap (λ (r : Rows). lineOr (onSheet paper r)) (sheet-take input m h)

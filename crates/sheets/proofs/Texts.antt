@@ -1,11 +1,9 @@
 -- What is printed, put piece by piece. Assumes nothing.
 use mathlib.Core.Path.{_≡_, refl, sym, ap, ap₂, _∙_, subst}
-use mathlib.Core.Bool.{Bool, true, false, cond}
-use mathlib.Core.List.{List, [], _∷_, _++_}
-use Prim.Native.Nat.{ℕ, zero, suc, _+_, _*_, _/_, _%_, _≤_}
+use mathlib.Core.List.{List, _++_}
+use Prim.Native.Nat.{ℕ, _+_, _*_, _≤_}
 use native.Mathlib.Omega.{arith}
 use borrow.Author.Tests.{le-leb}
-use lib.Dec.{ltb}
 use lib.ListN.{length, take, drop, length-append}
 use lib.Seq.{take-append-le, length-take-le}
 use Rattle.bits.specs.Bits.{bitsOf, bytesOf, bytesFor}
@@ -16,8 +14,9 @@ use Rattle.format.specs.Telegrams.Result.{accepted, refused}
 use Rattle.format.specs.declared.Kind.the-variants.{Size}
 use Rattle.format.specs.declared.Refusal.{Refusal}
 use Rattle.laws.proofs.Demand2.{length-bits, below-bits}
-use Rattle.pieces.specs.Numbers.{digitsOf, decimal}
+use Rattle.pieces.specs.Numbers.{decimal}
 use Rattle.pieces.specs.Pieces.{Appended, Grown}
+use Rattle.pieces.proofs.Decimals.{length-decimal}
 use Rattle.pieces.proofs.Starts.{grown-none, grows}
 use Rattle.sheet.specs.Rows.{textOf, sheetText}
 use Rattle.sheet.specs.Sheets.{Imported, numberOf, valueOf, lengthOf, sheetOver, exported, Export, imported, importInto, sizeOf, bytesOver, Import}
@@ -36,35 +35,25 @@ grown-within {before} {text} {out} {at} g =
 
 -- ---- what is refused
 
-pub decimal-few : (k n : ℕ) → length (digitsOf k n) ≤ k
-unfolding digitsOf
-decimal-few zero n = omega arith
-decimal-few (suc k) n = by (ltb n 10) (decimal-few k (n / 10))
-  where
-    by : (b : Bool) → length (digitsOf k (n / 10)) ≤ k
-        → length (cond b ((48 + n) ∷ []) (digitsOf k (n / 10) ++ ((48 + n % 10) ∷ []))) ≤ suc k
-    by true h = omega arith
-    by false h = rw (length-append (digitsOf k (n / 10)) ((48 + n % 10) ∷ [])) (omega arith)
-
 pub refusal-put : {before o₁ o₂ o₃ o₄ after : List ℕ} {e₁ e₂ e₃ e₄ end : ℕ} (reply : Reply) (a b : ℕ) → 64 ≤ length before
     → a ≡ numberOf reply → b ≡ valueOf reply → Appended before 0 (textOf "refused ") e₁ o₁ → Appended o₁ e₁ (decimal a) e₂ o₂
     → Appended o₂ e₂ (textOf " ") e₃ o₃ → Appended o₃ e₃ (decimal b) e₄ o₄ → Appended o₄ e₄ newline end after
     → Grown before (refusal reply) end after
 unfolding refusal
 refusal-put {before} {o₁} {o₂} {o₃} {o₄} {after} {e₁} {e₂} {e₃} {e₄} {end} reply a b room x y p₁ p₂ p₃ p₄ p₅ =
-    rw (sym x, sym y) (grows g₄ p₅ (simp length-append (omega (arith, decimal-few 20 a, decimal-few 20 b))))
+    rw (sym x, sym y) (grows g₄ p₅ (simp length-append (omega (arith, length-decimal 20 a, length-decimal 20 b))))
   where
     g₁ : Grown before (textOf "refused ") e₁ o₁
     g₁ = grows (grown-none before) p₁ (omega arith)
 
     g₂ : Grown before (textOf "refused " ++ decimal a) e₂ o₂
-    g₂ = grows g₁ p₂ (omega (arith, decimal-few 20 a))
+    g₂ = grows g₁ p₂ (omega (arith, length-decimal 20 a))
 
     g₃ : Grown before (textOf "refused " ++ decimal a ++ textOf " ") e₃ o₃
-    g₃ = grows g₂ p₃ (simp length-append (omega (arith, decimal-few 20 a)))
+    g₃ = grows g₂ p₃ (simp length-append (omega (arith, length-decimal 20 a)))
 
     g₄ : Grown before (textOf "refused " ++ decimal a ++ textOf " " ++ decimal b) e₄ o₄
-    g₄ = grows g₃ p₄ (simp length-append (omega (arith, decimal-few 20 a, decimal-few 20 b)))
+    g₄ = grows g₃ p₄ (simp length-append (omega (arith, length-decimal 20 a, length-decimal 20 b)))
 
 -- ---- `out`
 
