@@ -1,5 +1,5 @@
 -- What the program reads of its input is enough for its answer: 832 bytes of a line, and 35,712 of a sheet, or more. Assumes nothing.
-use mathlib.Core.Path.{_≡_, refl, sym, ap, _∙_}
+use mathlib.Core.Path.{_≡_, refl, sym, ap, _∙_, subst}
 use mathlib.Core.Bool.{Bool, true, false, cond, _&&_}
 use mathlib.Core.List.{List, [], _∷_}
 use mathlib.Core.Logic.{_⊎_, inl, inr, ⊎-elim}
@@ -18,7 +18,7 @@ use Rattle.format.specs.Rules.{paper}
 use Rattle.format.specs.declared.Kind.the-variants.{Size}
 use Rattle.laws.proofs.Told.{and-two}
 use Rattle.pieces.specs.Numbers.{Found, digitsOf, isDigit, digitsFrom, bounded, decimalIn, isPlace, placeOf, placesFrom, counted, sixteenIn}
-use Rattle.pieces.specs.Pieces.{begins}
+use Rattle.pieces.specs.Pieces.{begins, Grown}
 use Rattle.pieces.proofs.Decimals.{digit-bounds, from-digit, decimal-is, length-decimal}
 use Rattle.pieces.proofs.Loops.{digits-grow}
 use Rattle.pieces.proofs.Sixteens.{length-sixteen, sixteen-is}
@@ -26,6 +26,7 @@ use Rattle.sheet.specs.Rows.{crlf, heading, labelText, isRadio, fieldOf, entryO
 use Rattle.sheet.specs.Reading.{Row, labelIn, valueIn, closed, valued, rowIn, Rows, above, onRow, rowsIn, sheetIn}
 use Rattle.sheet.specs.Sheets.{onSheet, imported}
 use Rattle.states.specs.Reader.{atOnce}
+use Rattle.sheets.specs.Input.{Holds}
 use Rattle.sheets.specs.Printed.{lineLength, sheetOr, outText, lineOr, inText}
 use Rattle.sheets.proofs.Lines.{line-few, line-many, long-refused}
 
@@ -49,6 +50,16 @@ out-kept input m h = by (decLe (length input) m)
         let more = lt-of-not-le g in
         let l : length (take m input) ≡ m = length-take-le m input (omega arith) in
         long-out (take m input) (omega (arith, l)) ∙ sym (long-out input (omega arith))
+
+-- so what is put for the part of an input that a buffer holds is put for the input
+pub out-held : {before after : List ℕ} {end : ℕ} (buffer : List ℕ) (n : ℕ) (input : List ℕ) → 832 ≤ length buffer → Holds buffer n input
+    → Grown before (outText (take n buffer)) end after → Grown before (outText input) end after
+out-held {before} {after} {end} buffer n input h e g =
+    subst (λ (t : List ℕ). Grown before t end after) (ap outText e ∙ out-kept input (length buffer) h) g
+
+-- the bytes that were read are themselves such an input
+pub held : (buffer : List ℕ) (n : ℕ) → n ≤ length buffer → Holds buffer n (take n buffer)
+held buffer n h = let l : length (take n buffer) ≡ n = length-take-le n buffer h in sym (take-all (length buffer) (take n buffer) (omega (arith, l)))
 
 -- ---- a piece of text
 
@@ -265,3 +276,8 @@ sheet-take text m h =
 pub in-kept : (input : List ℕ) (m : ℕ) → 35712 ≤ m → inText (take m input) ≡ inText input
 unfolding inText imported
 in-kept input m h = ap (λ (r : Rows). lineOr (onSheet paper r)) (sheet-take input m h)
+
+pub in-held : {before after : List ℕ} {end : ℕ} (buffer : List ℕ) (n : ℕ) (input : List ℕ) → 35712 ≤ length buffer → Holds buffer n input
+    → Grown before (inText (take n buffer)) end after → Grown before (inText input) end after
+in-held {before} {after} {end} buffer n input h e g =
+    subst (λ (t : List ℕ). Grown before t end after) (ap inText e ∙ in-kept input (length buffer) h) g

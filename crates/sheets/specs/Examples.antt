@@ -10,6 +10,7 @@ use Rattle.sheet.specs.Rows.{textOf, heading}
 use Rattle.sheet.specs.Reading.{sheetIn}
 use Rattle.sheet.specs.Sheets.{imported}
 use Rattle.sheet.specs.declared.Reply.the-variants.{Refused, Row}
+use Rattle.sheets.specs.Input.{Holds}
 use Rattle.sheets.specs.Printed.{newline, refusal, lineLength, told, outText, characters, inText}
 
 -- rule 11 at bit 50, and row 17 of a sheet
@@ -37,3 +38,7 @@ line = refl
 ins : inText (textOf "x") ≡ textOf "refused 20 0" ++ newline
 unfolding inText imported sheetIn heading begins refusal digitsOf
 ins = refl
+
+-- a buffer of three bytes holds an input of two, and the start of one of five
+buffers : Holds (48 ∷ 49 ∷ 0 ∷ []) 2 (textOf "01") × Holds (textOf "010") 3 (textOf "01011")
+buffers = (refl, refl)

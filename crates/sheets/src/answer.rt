@@ -1,11 +1,13 @@
 // What is printed for an input, put into a text.
 ghost use mathlib.Core.Path.{_≡_};
-ghost use Prim.Native.Nat.{_≤_};
+ghost use mathlib.Core.List.{List};
+ghost use Prim.Native.Nat.{ℕ, _≤_};
 ghost use lib.ListN.{length};
 ghost use Rattle.pieces.specs.Pieces.{Grown};
 ghost use Rattle.format.specs.declared.Kind.the-variants.{Size};
 ghost use Rattle.sheet.specs.Sheets.{lengthOf, sheetOver};
 ghost use Rattle.states.specs.Reader.{atOnce};
+ghost use Rattle.sheets.specs.Input.{Holds};
 ghost use Rattle.sheets.specs.Printed.{refusal, lineLength, told, outText, inText};
 use crate::line::characters;
 use format::Kind;
@@ -17,8 +19,16 @@ use sheet::Reply;
 
 // ---- a line
 
+// As `from_line`, of an input that was read until the buffer was full or the input ended, by n bytes. A buffer of 832 is enough.
+pub(crate) fn from_start_of_line(read: &[u8], n: usize, out: &mut [u8]) -> usize
+    requires { ⌜ (832 ≤ length (now read)) × (n ≤ length (now read)) × (65536 ≤ length (now out)) ⌝ }
+    ensures { λ r. ⌜ ((input : List ℕ) → Holds (now (read .entry)) n input → Grown (now (out .entry)) (outText input) r (now (out .exit))) ⌝ }
+{
+    from_line(&read[..n], out)
+}
+
 // Puts the sheet of the telegram that the input's line writes, or what refuses it, into out, and gives where it ends.
-pub(crate) fn from_line(input: &[u8], out: &mut [u8]) -> usize
+fn from_line(input: &[u8], out: &mut [u8]) -> usize
     requires { ⌜ 65536 ≤ length (now out) ⌝ }
     ensures { λ r. ⌜ Grown (now (out .entry)) (outText (now (input .entry))) r (now (out .exit)) ⌝ }
 {
@@ -72,8 +82,16 @@ fn no_telegram() -> Reply
 
 // ---- a sheet
 
+// As `from_sheet`, of an input that was read until the buffer was full or the input ended, by n bytes. A buffer of 35,712 is enough.
+pub(crate) fn from_start_of_sheet(read: &[u8], n: usize, out: &mut [u8]) -> usize
+    requires { ⌜ (35712 ≤ length (now read)) × (n ≤ length (now read)) × (1024 ≤ length (now out)) ⌝ }
+    ensures { λ r. ⌜ ((input : List ℕ) → Holds (now (read .entry)) n input → Grown (now (out .entry)) (inText input) r (now (out .exit))) ⌝ }
+{
+    from_sheet(&read[..n], out)
+}
+
 // Puts the line of the telegram whose sheet the input is, or what refuses it, into out, and gives where it ends.
-pub(crate) fn from_sheet(input: &[u8], out: &mut [u8]) -> usize
+fn from_sheet(input: &[u8], out: &mut [u8]) -> usize
     requires { ⌜ 1024 ≤ length (now out) ⌝ }
     ensures { λ r. ⌜ Grown (now (out .entry)) (inText (now (input .entry))) r (now (out .exit)) ⌝ }
 {

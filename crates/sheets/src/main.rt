@@ -2,12 +2,14 @@
 // the line of the telegram whose sheet standard input has. What is refused is printed by its number and its place, or row.
 
 mod answer;
+mod input;
 mod line;
 
-use crate::answer::from_line;
-use crate::answer::from_sheet;
+use crate::answer::from_start_of_line;
+use crate::answer::from_start_of_sheet;
+use crate::input::Filled;
+use crate::input::fill;
 use libc::STDERR_FILENO;
-use libc::STDIN_FILENO;
 use libc::STDOUT_FILENO;
 
 // What the arguments ask for.
@@ -54,23 +56,32 @@ fn is(word: &[u8], other: &[u8]) -> bool {
 }
 
 // No telegram has more than 830 bits. An input of 832 bytes or more has at least 831 characters before a newline at its end and is
-// refused for that, whatever they are: so no more is read (`out-kept`).
+// refused for that, whatever they are: so no more is read.
 fn out() {
     let mut input = [0u8; 832];
-    let n = io::read_full(STDIN_FILENO, &mut input);
+    let Filled::Bytes(n) = fill(&mut input) else {
+        return unread();
+    };
     let mut text = io::large_buffer();
-    let end = from_line(&input[..n], &mut text);
+    let end = from_start_of_line(&input, n, &mut text);
     print(&text[..end]);
 }
 
-// No row takes more than 43 bytes. The first that is none, or the 831st, then begins within 35,712 bytes, and nothing behind it counts: so
-// no more than a buffer is read (`in-kept`).
+// A header takes 21 bytes and no row more than 43. So 35,712 bytes tell whether each of 830 rows is one and whether more follows, and no
+// more than a buffer is read.
 fn take_in() {
     let mut input = io::large_buffer();
-    let n = io::read_full(STDIN_FILENO, &mut input);
+    let Filled::Bytes(n) = fill(&mut input) else {
+        return unread();
+    };
     let mut text = [0u8; 1024];
-    let end = from_sheet(&input[..n], &mut text);
+    let end = from_start_of_sheet(&input, n, &mut text);
     print(&text[..end]);
+}
+
+// An input that cannot be read to its end gets no answer.
+fn unread() {
+    io::write_all(STDERR_FILENO, b"sheets: reading failed\n");
 }
 
 fn usage() {

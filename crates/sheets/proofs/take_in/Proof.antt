@@ -1,34 +1,53 @@
--- `sheets::take_in` is safe and ends: what it writes out lies within the text. Assumes nothing.
-use mathlib.Core.Path.{sym}
+-- `sheets::take_in` is safe and ends: what it reads lies within the buffer, which is long enough for an answer, and what it writes out within the
+-- text. Assumes nothing.
+use mathlib.Core.Path.{sym, subst}
+use Prim.Native.Nat.{_≤_}
+use native.Mathlib.Omega.{arith}
+use lib.ListN.{length}
 use lib.Seq.{length-take-le}
 use borrow.Author.Needs.{needs}
+use Rattle.sheets.specs.Input.{Within}
+use Rattle.sheets.proofs.Kept.{held}
 use Rattle.sheets.proofs.Texts.{grown-within}
 use Rattle.sheets.proofs.take_in.Statement.{statement}
 use Rattle.sheets.proofs.take_in.Tie as tie
 
+-- no more bytes were read than the buffer has
+read-within : (c : tie.After-n) → c .n .given .0 .0 ≤ length (c .before .before .before .fill .last .0)
+read-within c = subst (Within _) (c .n .given .1) (c .before .before .before .fill .ensures)
+
 large-buffer-requires : tie.Need-large-buffer-requires
 large-buffer-requires c κs = search needs
 
-slice-aggregate-read-full : tie.Need-slice-aggregate-read-full
-slice-aggregate-read-full c = search needs
+slice-aggregate-fill : tie.Need-slice-aggregate-fill
+slice-aggregate-fill c = search needs
 
-read-full-requires : tie.Need-read-full-requires
-read-full-requires c κs = search needs
+fill-requires : tie.Need-fill-requires
+fill-requires c κs = search needs
 
-array-share-prefix-input : tie.Need-array-share-prefix-input
-array-share-prefix-input c = search needs
+enum-known-n : tie.Need-enum-known-n
+enum-known-n c = search needs
 
-slice-aggregate-from-sheet : tie.Need-slice-aggregate-from-sheet
-slice-aggregate-from-sheet c = search needs
+enum-told : tie.Need-enum-told
+enum-told c = search needs
 
-slice-aggregate-from-sheet-2 : tie.Need-slice-aggregate-from-sheet-2
-slice-aggregate-from-sheet-2 c = search needs
+unread-requires : tie.Need-unread-requires
+unread-requires c κs = search needs
 
-from-sheet-requires : tie.Need-from-sheet-requires
-from-sheet-requires c κs = search needs
+returns : tie.Need-returns
+returns c = search needs
+
+slice-aggregate-from-start-of-sheet : tie.Need-slice-aggregate-from-start-of-sheet
+slice-aggregate-from-start-of-sheet c = search needs
+
+slice-aggregate-from-start-of-sheet-2 : tie.Need-slice-aggregate-from-start-of-sheet-2
+slice-aggregate-from-start-of-sheet-2 c = search needs
+
+from-start-of-sheet-requires : tie.Need-from-start-of-sheet-requires
+from-start-of-sheet-requires c κs = (omega arith, read-within (c .before .before .before), omega arith)
 
 array-share-prefix-text : tie.Need-array-share-prefix-text
-array-share-prefix-text c = grown-within (c .before .from-sheet .ensures)
+array-share-prefix-text c = grown-within (c .before .from-start-of-sheet .ensures _ (held _ _ (read-within (c .before .before .before .before .before))))
 
 slice-aggregate-print : tie.Need-slice-aggregate-print
 slice-aggregate-print c = sym (length-take-le _ _ (array-share-prefix-text (c .before)))
@@ -36,21 +55,24 @@ slice-aggregate-print c = sym (length-take-le _ _ (array-share-prefix-text (c .b
 print-requires : tie.Need-print-requires
 print-requires c κs = search needs
 
-returns : tie.Need-returns
-returns c = search needs
+returns-2 : tie.Need-returns-2
+returns-2 c = search needs
 
 pub take-in-spec : {M : Type 1} → statement M
 take-in-spec =
     tie.close
     (tie.spec
     large-buffer-requires
-    slice-aggregate-read-full
-    read-full-requires
-    array-share-prefix-input
-    slice-aggregate-from-sheet
-    slice-aggregate-from-sheet-2
-    from-sheet-requires
+    slice-aggregate-fill
+    fill-requires
+    enum-known-n
+    enum-told
+    unread-requires
+    returns
+    slice-aggregate-from-start-of-sheet
+    slice-aggregate-from-start-of-sheet-2
+    from-start-of-sheet-requires
     array-share-prefix-text
     slice-aggregate-print
     print-requires
-    returns)
+    returns-2)
