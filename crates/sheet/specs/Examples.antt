@@ -38,7 +38,7 @@ rows-refused : rowIn (read (textOf "Q_DIR,2,01")) ∷ rowIn (read (textOf "Q_DIR
 unfolding rowIn fields labelText begins decimalIn digitsFrom digitsOf sixteenIn placesFrom
 rows-refused = refl
 
--- an empty text, a heading alone, a heading and a bad row
+-- an empty text, a heading alone, with a row, and with a row that lacks its CRLF
 sheets : sheetIn [] ∷ sheetIn heading ∷ sheetIn (heading ++ textOf "END,8,255" ++ crlf) ∷ sheetIn (heading ++ textOf "END,8,255") ∷ []
     ≡ bad 0 ∷ rows [] ∷ rows (record { field = END; value = 255 } ∷ []) ∷ bad 1 ∷ []
 unfolding sheetIn heading begins rowsIn rowIn fields labelText decimalIn digitsFrom digitsOf sixteenIn placesFrom

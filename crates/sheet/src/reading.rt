@@ -20,8 +20,8 @@ enum Rows {
     Bad(usize),
 }
 
-// Writes the telegram whose sheet the text is into out, and answers its n. A refusal leaves out as it was: 1 under 104 bytes; at the first
-// row that is none; the writer's on the value column; at the first row whose name is not the one due there.
+// Writes the telegram whose sheet the text is into `out`, and answers its n. A refusal leaves `out` as it was: 1 under 104 bytes; at the first
+// that is no row; the writer's on the value column; at the first row whose name is not the one due there.
 pub fn import(text: &[u8], out: &mut [u8]) -> Reply
     ensures { λ r. ⌜ Import paper (now (text .entry)) (now (out .entry)) r (now (out .exit)) ⌝ }
 {

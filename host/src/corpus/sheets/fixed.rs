@@ -1,5 +1,5 @@
 //! Sheets that chance would bring up too seldom, or leave out: every header, name and form of a
-//! value once, and every name once where another is due.
+//! value once, and another name once in the place of each.
 
 use super::lists::{rows, sheet};
 use super::text::HEADERS;
