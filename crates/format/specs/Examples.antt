@@ -5,7 +5,7 @@ use Prim.Native.Nat.{ℕ}
 use Prim.Native.String.{String}
 use Rattle.format.specs.Packets.{_⧺_, times, header, etcs, ctcs, find}
 use Rattle.format.specs.Refusals.{numberOf}
-use Rattle.format.specs.Rules.{begun, next, misdirected, broken, noted, closes, settled, onward, step, radioFrom, packetPlace, among, sameAsEarlier, paper}
+use Rattle.format.specs.Rules.{begun, next, misdirected, broken, noted, closes, settled, onward, step, radioFrom, spotOf, spotAt, placeFrom, fieldPlace, among, sameAsEarlier, paper}
 use Rattle.format.specs.Telegrams.{Result, bits, values, names, places, bitCount, fromValues, drive, write}
 use Rattle.format.specs.Telegrams.Result.{accepted, refused}
 
@@ -15,7 +15,7 @@ said (accepted es) = 0 ∷ bitCount es ∷ []
 said (refused r) = numberOf (r .kind) ∷ r .place ∷ []
 
 unfoldable pub written : List ℕ → Result
-unfolding write drive begun fromValues step next find etcs ctcs header times _⧺_ broken misdirected noted settled onward closes radioFrom packetPlace sameAsEarlier among
+unfolding write drive begun fromValues step next find etcs ctcs header times _⧺_ broken misdirected noted settled onward closes radioFrom spotOf spotAt placeFrom fieldPlace sameAsEarlier among
 written vs = write paper vs
 
 -- a header, with packets or a part of one after it
@@ -26,14 +26,14 @@ told vs = said (written (1 ∷ 16 ∷ 0 ∷ 0 ∷ 1 ∷ 0 ∷ 255 ∷ 9 ∷ 3007
 header-rules : map (λ vs. said (written vs))
     ((0 ∷ 16 ∷ 0 ∷ 0 ∷ 1 ∷ []) ∷ (1 ∷ 17 ∷ []) ∷ (1 ∷ 16 ∷ 1 ∷ []) ∷ (1 ∷ 16 ∷ 0 ∷ 2 ∷ 1 ∷ []) ∷ (1 ∷ 16 ∷ 0 ∷ 1 ∷ 1 ∷ 3 ∷ [])
     ∷ [] ∷ (1 ∷ 16 ∷ 0 ∷ []) ∷ [])
-    ≡ (4 ∷ 0 ∷ []) ∷ (4 ∷ 0 ∷ []) ∷ (4 ∷ 0 ∷ []) ∷ (4 ∷ 0 ∷ []) ∷ (4 ∷ 0 ∷ []) ∷ (5 ∷ 0 ∷ []) ∷ (5 ∷ 0 ∷ []) ∷ []
+    ≡ (4 ∷ 0 ∷ []) ∷ (4 ∷ 1 ∷ []) ∷ (4 ∷ 8 ∷ []) ∷ (4 ∷ 12 ∷ []) ∷ (4 ∷ 15 ∷ []) ∷ (5 ∷ 0 ∷ []) ∷ (5 ∷ 9 ∷ []) ∷ []
 unfolding written
 header-rules = refl
 
 -- the end mark alone, with a value after it, without it; ETCS-254 with a right and a wrong L_PACKET; an identifier of no table
 between-packets : map told
     ((255 ∷ []) ∷ (255 ∷ 0 ∷ []) ∷ [] ∷ (254 ∷ 2 ∷ 23 ∷ 255 ∷ []) ∷ (254 ∷ 2 ∷ 24 ∷ 255 ∷ []) ∷ (7 ∷ []) ∷ [])
-    ≡ (0 ∷ 58 ∷ []) ∷ (11 ∷ 50 ∷ []) ∷ (5 ∷ 50 ∷ []) ∷ (0 ∷ 81 ∷ []) ∷ (8 ∷ 50 ∷ []) ∷ (6 ∷ 50 ∷ []) ∷ []
+    ≡ (0 ∷ 58 ∷ []) ∷ (11 ∷ 58 ∷ []) ∷ (5 ∷ 50 ∷ []) ∷ (0 ∷ 81 ∷ []) ∷ (8 ∷ 60 ∷ []) ∷ (6 ∷ 50 ∷ []) ∷ []
 unfolding written
 between-packets = refl
 
@@ -41,15 +41,15 @@ between-packets = refl
 values-allowed : map told
     ((132 ∷ 3 ∷ []) ∷ (21 ∷ 1 ∷ 54 ∷ 3 ∷ []) ∷ (46 ∷ 1 ∷ 47 ∷ 1 ∷ 0 ∷ []) ∷ (46 ∷ 1 ∷ 42 ∷ 1 ∷ 3 ∷ 1 ∷ 0 ∷ 255 ∷ [])
     ∷ (42 ∷ 1 ∷ 113 ∷ 0 ∷ 0 ∷ 0 ∷ 0x08614970020002FF ∷ 0 ∷ 255 ∷ []) ∷ (42 ∷ 1 ∷ 113 ∷ 0 ∷ 0 ∷ 0 ∷ 0x0861497002000FF2 ∷ []) ∷ [])
-    ≡ (7 ∷ 50 ∷ []) ∷ (7 ∷ 50 ∷ []) ∷ (7 ∷ 50 ∷ []) ∷ (0 ∷ 100 ∷ []) ∷ (0 ∷ 171 ∷ []) ∷ (7 ∷ 50 ∷ []) ∷ []
+    ≡ (7 ∷ 58 ∷ []) ∷ (7 ∷ 73 ∷ []) ∷ (7 ∷ 76 ∷ []) ∷ (0 ∷ 100 ∷ []) ∷ (0 ∷ 171 ∷ []) ∷ (7 ∷ 98 ∷ []) ∷ []
 unfolding written
 values-allowed = refl
 
--- ETCS-44 with CTCS-5: right; an inner Q_DIR of its own; an inner length, then an outer length, that is wrong; CTCS-6
+-- ETCS-44 with CTCS-5: right; an inner Q_DIR of its own; an inner length, an outer length, then both, that are wrong; CTCS-6
 inner-packets : map told
     ((44 ∷ 1 ∷ 48 ∷ 5 ∷ 1 ∷ 25 ∷ 0 ∷ 255 ∷ []) ∷ (44 ∷ 1 ∷ 48 ∷ 5 ∷ 0 ∷ 25 ∷ 0 ∷ []) ∷ (44 ∷ 1 ∷ 48 ∷ 5 ∷ 1 ∷ 24 ∷ 0 ∷ [])
-    ∷ (44 ∷ 1 ∷ 57 ∷ 5 ∷ 1 ∷ 25 ∷ 0 ∷ []) ∷ (44 ∷ 1 ∷ 48 ∷ 6 ∷ []) ∷ [])
-    ≡ (0 ∷ 106 ∷ []) ∷ (9 ∷ 50 ∷ []) ∷ (8 ∷ 50 ∷ []) ∷ (8 ∷ 50 ∷ []) ∷ (6 ∷ 50 ∷ []) ∷ []
+    ∷ (44 ∷ 1 ∷ 57 ∷ 5 ∷ 1 ∷ 25 ∷ 0 ∷ []) ∷ (44 ∷ 1 ∷ 57 ∷ 5 ∷ 1 ∷ 24 ∷ 0 ∷ []) ∷ (44 ∷ 1 ∷ 48 ∷ 6 ∷ []) ∷ [])
+    ≡ (0 ∷ 106 ∷ []) ∷ (9 ∷ 82 ∷ []) ∷ (8 ∷ 84 ∷ []) ∷ (8 ∷ 60 ∷ []) ∷ (8 ∷ 84 ∷ []) ∷ (6 ∷ 73 ∷ []) ∷ []
 unfolding written
 inner-packets = refl
 
@@ -57,7 +57,7 @@ inner-packets = refl
 collisions : map told
     ((132 ∷ 1 ∷ 24 ∷ 0 ∷ 132 ∷ 1 ∷ []) ∷ (132 ∷ 1 ∷ 24 ∷ 0 ∷ 132 ∷ 0 ∷ 24 ∷ 0 ∷ 255 ∷ [])
     ∷ (44 ∷ 1 ∷ 48 ∷ 5 ∷ 1 ∷ 25 ∷ 0 ∷ 44 ∷ 1 ∷ 48 ∷ 5 ∷ 1 ∷ 25 ∷ 0 ∷ 255 ∷ []) ∷ (132 ∷ 1 ∷ 24 ∷ 0 ∷ 137 ∷ 1 ∷ 24 ∷ 1 ∷ 255 ∷ []) ∷ [])
-    ≡ (10 ∷ 74 ∷ []) ∷ (0 ∷ 106 ∷ []) ∷ (0 ∷ 154 ∷ []) ∷ (0 ∷ 106 ∷ []) ∷ []
+    ≡ (10 ∷ 82 ∷ []) ∷ (0 ∷ 106 ∷ []) ∷ (0 ∷ 154 ∷ []) ∷ (0 ∷ 106 ∷ []) ∷ []
 unfolding written
 collisions = refl
 
@@ -65,7 +65,7 @@ collisions = refl
 ways-and-lists : map told
     ((68 ∷ 1 ∷ 41 ∷ 1 ∷ 1 ∷ 7 ∷ 255 ∷ []) ∷ (68 ∷ 1 ∷ 65 ∷ 1 ∷ 0 ∷ 7 ∷ 8 ∷ 9 ∷ 0 ∷ 255 ∷ []) ∷ (132 ∷ 4 ∷ [])
     ∷ (27 ∷ 1 ∷ 108 ∷ 1 ∷ 7 ∷ 8 ∷ 0 ∷ 0 ∷ 1 ∷ 7 ∷ 8 ∷ 0 ∷ 2 ∷ 0 ∷ 5 ∷ 2 ∷ 6 ∷ 255 ∷ []) ∷ (132 ∷ 1 ∷ []) ∷ [])
-    ≡ (0 ∷ 99 ∷ []) ∷ (0 ∷ 123 ∷ []) ∷ (12 ∷ 50 ∷ []) ∷ (0 ∷ 166 ∷ []) ∷ (5 ∷ 50 ∷ []) ∷ []
+    ≡ (0 ∷ 99 ∷ []) ∷ (0 ∷ 123 ∷ []) ∷ (12 ∷ 58 ∷ []) ∷ (0 ∷ 166 ∷ []) ∷ (5 ∷ 60 ∷ []) ∷ []
 unfolding written
 ways-and-lists = refl
 

@@ -5,13 +5,16 @@ use mathlib.Core.List.{List, [], _∷_}
 use mathlib.Core.Option.{Option, some, none}
 use Prim.Native.Nat.{ℕ, zero, suc, _+_, _-_, _/_, _%_, _^_}
 use lib.Dec.{eqb, leb}
-use Rattle.format.specs.Fields.{Field, Rule, Sense, steers, NID-PACKET, NID-XUSER, END}
+use Rattle.format.specs.Fields.{Field, Rule, Sense, steers, NID-PACKET, NID-XUSER, Q-DIR, END}
 use Rattle.format.specs.Fields.Rule.{any, packet, user, direction, size, pig, total, radio, within}
 use Rattle.format.specs.Fields.Sense.{plain, scale, distance, textLength}
 use Rattle.format.specs.Packets.{Items, times, header, etcs, ctcs, find}
 use Rattle.format.specs.Packets.Items.{end, nest, send, sendIf, sendEither, sendTimes}
+use Rattle.format.specs.Refusals.{numberOf}
 use Rattle.format.specs.declared.Kind.{Kind}
 use Rattle.format.specs.declared.Kind.the-variants.{Header, Unknown, Value, Length, Direction, Repeated}
+use Rattle.format.specs.declared.Spot.{Spot}
+use Rattle.format.specs.declared.Spot.the-variants.{Due, Behind, Outer, Inner}
 
 -- ---- where a telegram stands
 
@@ -213,17 +216,38 @@ step p s v =
 abbrev pub moved : State → Items → Context → State
 moved s t c = record { at = past s; todo = t; context = c }
 
--- ---- document 01's own terms
+-- ---- the place of a refusal
 
-abbrev pub at : {A : Type 0} → Level → A → A → A → A
-at inHeader a b c = a
-at inPacket a b c = b
-at inUser a b c = c
+abbrev pub byLevel : {A : Type 0} → Level → A → A → A → A
+byLevel inHeader a b c = a
+byLevel inPacket a b c = b
+byLevel inUser a b c = c
 
--- "The place is 0 for .. the header, otherwise the bit where the outermost packet (or end mark) in hand begins or would begin; for
--- 11, where the end mark begins"
-unfoldable pub packetPlace : Kind → State → ℕ → ℕ
-packetPlace k s v = at (s .context .level) 0 (s .context .start) (s .context .start)
+-- The L_PACKET that is wrong where a packet's last field ends at the bit past: the CTCS packet's, which is tested first, or else that of
+-- the packet around it.
+abbrev pub misfit : ℕ → Context → Spot
+misfit past c = byLevel (c .level) Due Outer (cond (eqb (past - c .userStart) (c .userLong)) Outer Inner)
+
+-- Document 02, 2: "the offending field ..; for 8 that is the L_PACKET field, for 11 the first bit past the end mark"; it is found at a
+-- field that ends at the bit past
+unfoldable pub spotOf : Kind → ℕ → Context → Spot
+spotOf k past c = cond (eqb (numberOf k) 8) (misfit past c) (cond (eqb (numberOf k) 11) Behind Due)
+
+-- the bit where that begins; an L_PACKET stands behind the identifier and the Q_DIR of its packet
+unfoldable pub spotAt : Spot → ℕ → ℕ → Context → ℕ
+spotAt Due at past c = at
+spotAt Behind at past c = past
+spotAt Outer at past c = c .start + (NID-PACKET .width + Q-DIR .width)
+spotAt Inner at past c = c .userStart + (NID-XUSER .width + Q-DIR .width)
+
+-- "Refusals 4 to 13 shall give the bit where the offending field begins", "for 5 the field that couldn't be finished"
+unfoldable pub placeFrom : Kind → ℕ → ℕ → Context → ℕ
+placeFrom k at past c = spotAt (spotOf k past c) at past c
+
+unfoldable pub fieldPlace : Kind → State → ℕ → ℕ
+fieldPlace k s v = placeFrom k (s .at) (past s) (s .context)
+
+-- ---- document 01's collisions
 
 unfoldable pub among : ℕ → ℕ → List Earlier → Bool
 among i d [] = false
@@ -233,5 +257,6 @@ among i d (e ∷ es) = eqb i (e .id) && eqb d (e .dir) || among i d es
 unfoldable pub sameAsEarlier : Context → ℕ → Bool
 sameAsEarlier c v = not (eqb (c .id) 44) && among (c .id) v (c .earlier)
 
+-- the terms that hold
 abbrev pub paper : Terms
-paper = record { placeOf = packetPlace; collides = sameAsEarlier }
+paper = record { placeOf = fieldPlace; collides = sameAsEarlier }

@@ -23,6 +23,15 @@ pub enum Kind {
     Full,
 }
 
+// What a refusal points at: the field that is due, the bit behind it, or an L_PACKET that is wrong: that of the packet, or of the CTCS
+// packet inside it.
+pub enum Spot {
+    Due,
+    Behind,
+    Outer,
+    Inner,
+}
+
 // A refusal: its kind together with its place, a bit of the telegram.
 pub struct Refusal {
     pub kind: Kind,
