@@ -120,7 +120,7 @@ cases =
     reads (eight 0xC0) 58 (head ++ (255 ∷ [])) 11
     -- 2. The same with C1 last; the same eight bytes with n = 59; n = 57
     ∷ refuses (eight 0xC1) 58 3 0
-    ∷ refuses (eight 0xC0) 59 11 50
+    ∷ refuses (eight 0xC0) 59 11 58
     ∷ refuses (eight 0xC0) 57 2 0
     -- 3. ETCS-5 with N_ITER 1, no new country 108, one new country 118
     ∷ takes (5 ∷ 1 ∷ 108 ∷ 1 ∷ (linked ++ (1 ∷ linked))) 108
@@ -144,7 +144,7 @@ cases =
     ∷ takes (call 0x08614970020002FF) 113
     ∷ takes (call 0x8614970020002FFF) 113
     ∷ differ (call 0x08614970020002FF) (call 0x8614970020002FFF)
-    ∷ breaks (call 0x0861497002000FF2) 7 50
+    ∷ breaks (call 0x0861497002000FF2) 7 98
     -- 8. CTCS-3 at 10 m, 50 and 400, becomes 1 m, 500 and 4000; at 10 cm, 200 and 1005, it stays
     ∷ becomes (reversing 2 50 400) (reversing 1 500 4000)
     ∷ becomes (reversing 0 200 1005) (reversing 0 200 1005)

@@ -5,7 +5,7 @@ use mathlib.Core.List.{List, [], _∷_, _++_, append-assoc}
 use Prim.Native.Nat.{ℕ, _+_, _*_, _≤_, _<_}
 use native.Mathlib.Omega.{arith}
 use lib.ListN.{length, length-append}
-use Rattle.format.specs.Rules.{Earlier, begun, step, due, past, moved, among, paper, packetPlace}
+use Rattle.format.specs.Rules.{Earlier, begun, step, due, past, moved, among, paper, spotOf, spotAt, placeFrom, fieldPlace}
 use Rattle.format.specs.Rules.Next.{over, breaks}
 use Rattle.format.specs.Table.{fieldAt, words}
 use Rattle.format.specs.Telegrams.{Entry, entry, all, values, valuesIn, bitCount, Taken, Driven, Result, refusal, push, drive, whole}
@@ -14,6 +14,8 @@ use Rattle.format.specs.Telegrams.Driven.{ended, stopped}
 use Rattle.format.specs.Telegrams.Result.{accepted, refused}
 use Rattle.format.specs.declared.Kind.{Kind}
 use Rattle.format.specs.declared.Kind.the-variants.{Ended, Trailing}
+use Rattle.format.specs.declared.Spot.{Spot}
+use Rattle.format.specs.declared.Spot.the-variants.{Due, Behind, Outer, Inner}
 use Rattle.laws.proofs.Sources.{Source, width-named}
 use Rattle.laws.proofs.Steps.{over-mark}
 use Rattle.laws.proofs.Turns.{pushes, pushes-ended, pushes-stopped, pushes-one, one-mark, one-broken, one-lacking, one-field-bounds}
@@ -32,9 +34,21 @@ all-append part [] b = refl
 all-append part (x ∷ a) b = rw (all-append part a b, append-assoc)
 
 -- the place of a refusal does not go by the packets before
-pub same-place : (k : Kind) (st : State) (v : ℕ) (l : List Earlier) → packetPlace k (view [] st) v ≡ packetPlace k (view l st) v
-unfolding packetPlace
-same-place k st v l = refl
+spot-same : (p : Spot) (st : State) (at end : ℕ) (l : List Earlier) → spotAt p at end (contextOf [] st) ≡ spotAt p at end (contextOf l st)
+unfolding spotAt
+spot-same Due st at end l = refl
+spot-same Behind st at end l = refl
+spot-same Outer st at end l = refl
+spot-same Inner st at end l = refl
+
+same-place : (k : Kind) (st : State) (end : ℕ) (l : List Earlier)
+    → placeFrom k (st .at) end (contextOf [] st) ≡ placeFrom k (st .at) end (contextOf l st)
+unfolding placeFrom spotOf
+same-place k st end l = spot-same (spotOf k end (contextOf [] st)) st (st .at) end l
+
+-- packets begin low enough for the places of their fields to be numbers of the machine
+pub starts-low : {st : State} → Sound st → st .at ≤ 830 → (st .start ≤ 65536) × (st .userstart ≤ 65536)
+starts-low s l = (omega (arith, s .first), omega (arith, s .second))
 
 pub values-more : (es : List Entry) (e : Entry) → length (values (es ++ (e ∷ []))) ≡ length (values es) + 1
 unfolding valuesIn
@@ -115,10 +129,18 @@ module _ (source : rules.State → List ℕ → Taken) (part : Entry → List �
       pub due-is : due (todoOf (st .todo)) ≡ fieldAt (st .todo .node)
       due-is = sym (due-right (st .todo) (i .sound .tidy))
 
+      -- where a refusal is found at the field that is due
+      pub placed : (k : Kind) (v : ℕ) {end : ℕ} → end ≡ st .at + fieldAt (st .todo .node) .width → (l : List Earlier)
+          → placeFrom k (st .at) end (contextOf [] st) ≡ fieldPlace k (view l st) v
+      unfolding fieldPlace
+      placed k v {end} e l =
+          let p : past (view l st) ≡ end = rw due-is (sym e) in
+          rw p (same-place k st end l)
+
       ends : (d : Driven) → drive paper source (length xs) here xs ≡ d → result ≡ whole paper (pushes (i .entries) d)
       ends d e = ap (whole paper) (i .goes ∙ ap (pushes (i .entries)) e)
 
-      stops : (k : Kind) (v place : ℕ) → ((l : List Earlier) → place ≡ packetPlace k (view l st) v)
+      stops : (k : Kind) (v place : ℕ) → ((l : List Earlier) → place ≡ fieldPlace k (view l st) v)
           → drive paper source (length xs) here xs ≡ stopped (refusal paper k here v)
           → result ≡ refused (record { kind = k; place = place })
       stops k v place pl e =
@@ -127,7 +149,7 @@ module _ (source : rules.State → List ℕ → Taken) (part : Entry → List �
 
       -- ---- where the loop ends
 
-      pub refused-lacking : {k : Kind} → source here xs ≡ lacks k → {place : ℕ} → ((l : List Earlier) → place ≡ packetPlace k (view l st) 0)
+      pub refused-lacking : {k : Kind} → source here xs ≡ lacks k → {place : ℕ} → ((l : List Earlier) → place ≡ fieldPlace k (view l st) 0)
           → result ≡ refused (record { kind = k; place = place })
       refused-lacking {k} e {place} pl = stops k 0 place pl (drive-lacking here xs k e)
 
@@ -138,7 +160,7 @@ module _ (source : rules.State → List ℕ → Taken) (part : Entry → List �
         step-is : step paper here v ≡ nextOf (earlierAfter (i .earlier) st v) out
         step-is = o .right (i .earlier) (i .same)
 
-        pub refused-broken : {k : Kind} → out ≡ Breaks k → {place : ℕ} → ((l : List Earlier) → place ≡ packetPlace k (view l st) v)
+        pub refused-broken : {k : Kind} → out ≡ Breaks k → {place : ℕ} → ((l : List Earlier) → place ≡ fieldPlace k (view l st) v)
             → result ≡ refused (record { kind = k; place = place })
         refused-broken {k} b {place} pl =
             stops k v place pl (drive-broken here xs ys v k e (step-is ∙ ap (nextOf (earlierAfter (i .earlier) st v)) b))
@@ -165,7 +187,7 @@ module _ (source : rules.State → List ℕ → Taken) (part : Entry → List �
         trailing [] h = absurd (omega arith)
         trailing (z ∷ zs) h = refl
 
-        pub refused-trailing : out ≡ Over → 0 < length ys → {place : ℕ} → ((l : List Earlier) → place ≡ packetPlace Trailing (view l st) v)
+        pub refused-trailing : out ≡ Over → 0 < length ys → {place : ℕ} → ((l : List Earlier) → place ≡ fieldPlace Trailing (view l st) v)
             → result ≡ refused (record { kind = Trailing; place = place })
         refused-trailing b h {place} pl =
             let mark : v ≡ 255 = over-mark paper here v (over-is b) .1 in

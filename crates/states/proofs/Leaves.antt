@@ -7,11 +7,10 @@ use lib.Dec.{eqb}
 use lib.ListN.{take}
 use Rattle.bits.proofs.Once.{Once, equation-once}
 use Rattle.format.specs.Normal.{viewOf}
-use Rattle.format.specs.Rules.{Earlier, Context, packetPlace, among}
+use Rattle.format.specs.Rules.{Earlier, Context, spotOf, among}
 use Rattle.format.specs.Telegrams.{Entry}
-use Rattle.format.specs.declared.Answer.the-variants.{Refused}
 use Rattle.format.specs.declared.Kind.{Kind}
-use Rattle.states.specs.Machine.{Noted, senseOf, contextOf, levelOf, view, unread, slight}
+use Rattle.states.specs.Machine.{Noted, senseOf, contextOf, levelOf, unread, slight}
 use Rattle.states.specs.Normaliser.{viewIs}
 use Rattle.states.specs.Reader.{sized}
 use Rattle.states.specs.Seen.{packetsIn}
@@ -37,9 +36,8 @@ slight-once c low high v = equation-once (slight c low high v)
 pub closes-once : (s : State) (at : ℕ) → Once (λ r. (l : List Earlier) → r ≡ rules.closes at (contextOf l s) (levelOf (s .level)))
 closes-once s at a b p q = p [] ∙ sym (q [])
 
-pub refused-once : (k : Kind) (s : State) (v : ℕ)
-    → Once (λ r. (l : List Earlier) → r ≡ Refused (record { kind = k; place = packetPlace k (view l s) v }))
-refused-once k s v a b p q = p [] ∙ sym (q [])
+pub spot-once : (k : Kind) (s : State) (end : ℕ) → Once (λ r. (l : List Earlier) → r ≡ spotOf k end (contextOf l s))
+spot-once k s end a b p q = p [] ∙ sym (q [])
 
 -- a way of counting is known by what it stands for
 view-same : (a b : View) → viewIs a ≡ viewIs b → a ≡ b

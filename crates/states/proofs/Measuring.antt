@@ -9,7 +9,7 @@ use borrow.Author.Tests.{ltb-true, le-leb, lt-leb}
 use lib.Dec.{ltb}
 use lib.ListN.{length, drop, getD, length-drop, drop-of-length-le}
 use lib.Seq.{drop-cons}
-use Rattle.format.specs.Rules.{begun, paper, packetPlace}
+use Rattle.format.specs.Rules.{begun, paper, spotOf, spotAt, placeFrom, fieldPlace}
 use Rattle.format.specs.Table.{fieldAt, words}
 use Rattle.format.specs.Telegrams.{valuesIn, fromValues, write}
 use Rattle.format.specs.Telegrams.Taken.{got, lacks}
@@ -18,13 +18,13 @@ use Rattle.format.specs.declared.Kind.{Kind}
 use Rattle.format.specs.declared.Kind.the-variants.{Ended, Trailing, Wide, Full}
 use Rattle.format.specs.declared.Answer.the-variants.{Accepted}
 use Rattle.laws.proofs.Sources.{Listed, from-values}
-use Rattle.states.specs.Machine.{view, Beginning}
+use Rattle.states.specs.Machine.{contextOf, view, Beginning}
 use Rattle.states.specs.Seen.{Passed, Noticed}
 use Rattle.states.specs.Writer.{sizeOf}
 use Rattle.states.specs.declared.State.{State}
 use Rattle.states.specs.declared.Outcome.{Outcome}
 use Rattle.states.specs.declared.Outcome.the-variants.{Go, Over, Breaks}
-use Rattle.states.proofs.Driving.{same-place, Drives, drives-first, due-is, refused-lacking, refused-broken, accepted-mark, refused-trailing, mark-sized, moves, drives-on}
+use Rattle.states.proofs.Driving.{placed, Drives, drives-first, due-is, refused-lacking, refused-broken, accepted-mark, refused-trailing, mark-sized, moves, drives-on}
 use Rattle.format.specs.Fields as fields
 use Rattle.format.specs.Rules as rules
 
@@ -70,11 +70,11 @@ module _ {vs rows seen : List ℕ} {met : ℕ} {st : State} {i : ℕ} (m : Measu
   field-is : rules.field q ≡ fieldAt (st .todo .node)
   field-is = due-is fromValues valuesIn Listed from-values vs (m .drives)
 
-  pub ends-none : length vs ≤ i
-      → write paper vs ≡ refused (record { kind = Ended; place = packetPlace Ended (view [] st) 0 })
-  unfolding write
-  ends-none h =
-      refused-lacking fromValues valuesIn Listed from-values vs (m .drives) (lacks-ended q (drop i vs) (drop-of-length-le vs h)) (same-place Ended st 0)
+  pub ends-none : length vs ≤ i → (end : ℕ)
+      → write paper vs ≡ refused (record { kind = Ended; place = placeFrom Ended (st .at) end (contextOf [] st) })
+  unfolding write fieldPlace placeFrom spotOf spotAt
+  ends-none h end =
+      refused-lacking fromValues valuesIn Listed from-values vs (m .drives) (lacks-ended q (drop i vs) (drop-of-length-le vs h)) (λ l. refl)
 
   module _ (h : i < length vs) {w : ℕ} (ew : w ≡ fieldAt (st .todo .node) .width) where
     abbrev v : ℕ
@@ -83,20 +83,20 @@ module _ {vs rows seen : List ℕ} {met : ℕ} {st : State} {i : ℕ} (m : Measu
     next-is : drop i vs ≡ v ∷ drop (i + 1) vs
     next-is = rw (add-one i) (drop-cons vs i 0 h)
 
-    pub ends-wide : ltb v (2 ^ w) ≡ false
-        → write paper vs ≡ refused (record { kind = Wide; place = packetPlace Wide (view [] st) 0 })
-    unfolding write
-    ends-wide k =
+    pub ends-wide : ltb v (2 ^ w) ≡ false → (end : ℕ)
+        → write paper vs ≡ refused (record { kind = Wide; place = placeFrom Wide (st .at) end (contextOf [] st) })
+    unfolding write fieldPlace placeFrom spotOf spotAt
+    ends-wide k end =
         refused-lacking fromValues valuesIn Listed from-values vs (m .drives)
-        (ap (fromValues q) next-is ∙ lacks-wide q (fieldAt (st .todo .node)) field-is v (drop (i + 1) vs) (rw (← ew) k)) (same-place Wide st 0)
+        (ap (fromValues q) next-is ∙ lacks-wide q (fieldAt (st .todo .node)) field-is v (drop (i + 1) vs) (rw (← ew) k)) (λ l. refl)
 
     module _ (small : ltb v (2 ^ w) ≡ true) where
-      pub ends-full : 830 < st .at + w
-          → write paper vs ≡ refused (record { kind = Full; place = packetPlace Full (view [] st) 0 })
-      unfolding write
-      ends-full k =
+      pub ends-full : 830 < st .at + w → (end : ℕ)
+          → write paper vs ≡ refused (record { kind = Full; place = placeFrom Full (st .at) end (contextOf [] st) })
+      unfolding write fieldPlace placeFrom spotOf spotAt
+      ends-full k end =
           refused-lacking fromValues valuesIn Listed from-values vs (m .drives)
-          (ap (fromValues q) next-is ∙ lacks-full q (fieldAt (st .todo .node)) field-is v (drop (i + 1) vs) (rw (← ew) small) (rw (← ew) k)) (same-place Full st 0)
+          (ap (fromValues q) next-is ∙ lacks-full q (fieldAt (st .todo .node)) field-is v (drop (i + 1) vs) (rw (← ew) small) (rw (← ew) k)) (λ l. refl)
 
       pub fits : v < 2 ^ fieldAt (st .todo .node) .width
       fits = rw (← ew) (ltb-true v (2 ^ w) small)
@@ -105,11 +105,15 @@ module _ {vs rows seen : List ℕ} {met : ℕ} {st : State} {i : ℕ} (m : Measu
         has : fromValues q (drop i vs) ≡ got v (drop (i + 1) vs)
         has = ap (fromValues q) next-is ∙ has-value q (fieldAt (st .todo .node)) field-is v (drop (i + 1) vs) (rw (← ew) small) (rw (← ew) room)
 
+        -- where the field ends
+        end-is : st .at + w ≡ st .at + fieldAt (st .todo .node) .width
+        end-is = rw ew
+
         module _ {out : Outcome} (o : Passed seen met st v out) where
           pub ends-broken : {k : Kind} → out ≡ Breaks k
-              → write paper vs ≡ refused (record { kind = k; place = packetPlace k (view [] st) v })
+              → write paper vs ≡ refused (record { kind = k; place = placeFrom k (st .at) (st .at + w) (contextOf [] st) })
           unfolding write
-          ends-broken b = refused-broken fromValues valuesIn Listed from-values vs (m .drives) has o b (same-place _ st v)
+          ends-broken b = refused-broken fromValues valuesIn Listed from-values vs (m .drives) has o b (placed fromValues valuesIn Listed from-values vs (m .drives) _ v end-is)
 
           pub ends-well : out ≡ Over → i + 1 ≡ length vs → Accepted (st .at + w) ≡ sizeOf (write paper vs)
           unfolding write
@@ -119,10 +123,10 @@ module _ {vs rows seen : List ℕ} {met : ℕ} {st : State} {i : ℕ} (m : Measu
               rw (accepted-mark fromValues valuesIn Listed from-values vs (m .drives) has o b none, mark-sized fromValues valuesIn Listed from-values vs (m .drives) has o, ew)
 
           pub ends-trailing : out ≡ Over → (i + 1 ≡ length vs → ⊥)
-              → write paper vs ≡ refused (record { kind = Trailing; place = packetPlace Trailing (view [] st) v })
+              → write paper vs ≡ refused (record { kind = Trailing; place = placeFrom Trailing (st .at) (st .at + w) (contextOf [] st) })
           unfolding write
           ends-trailing b z =
-              refused-trailing fromValues valuesIn Listed from-values vs (m .drives) has o b (rw length-drop (omega arith)) (same-place Trailing st v)
+              refused-trailing fromValues valuesIn Listed from-values vs (m .drives) has o b (rw length-drop (omega arith)) (placed fromValues valuesIn Listed from-values vs (m .drives) Trailing v end-is)
 
           pub measures-on : {after : State} → out ≡ Go after → {met2 : ℕ} {seen2 : List ℕ} → Noticed seen met st v met2 seen2
               → Measures vs rows seen2 met2 after (i + 1)

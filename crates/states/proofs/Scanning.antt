@@ -16,7 +16,7 @@ use Rattle.bits.specs.declared.Taken.{Taken}
 use Rattle.bits.specs.declared.Taken.the-variants.{Field, Short}
 use Rattle.bits.proofs.Bytes.{length-bitsOf, below-bitsOf, below-take}
 use Rattle.bits.proofs.Fields.{IsField, taken, take-whole}
-use Rattle.format.specs.Rules.{Earlier, begun, closes, paper, packetPlace}
+use Rattle.format.specs.Rules.{Earlier, begun, closes, paper, spotOf, spotAt, placeFrom, fieldPlace}
 use Rattle.format.specs.Table.{act, fieldAt, codeOf, words}
 use Rattle.format.specs.Telegrams.{bitsIn, fromBits, whole, read}
 use Rattle.format.specs.Telegrams.Taken.{got, lacks}
@@ -36,7 +36,7 @@ use Rattle.states.specs.declared.Outcome.{Outcome}
 use Rattle.states.specs.declared.Outcome.the-variants.{Go, Over, Breaks}
 use Rattle.states.proofs.Stepping.{width-in, settled-goes, settled-fresh}
 use Rattle.states.specs.Seen.{Passed, Noticed}
-use Rattle.states.proofs.Driving.{same-place, Drives, drives-first, due-is, here, refused-lacking, refused-broken, accepted-mark, refused-trailing, mark-counted, moves, drives-on}
+use Rattle.states.proofs.Driving.{placed, Drives, drives-first, due-is, here, refused-lacking, refused-broken, accepted-mark, refused-trailing, mark-counted, moves, drives-on}
 use Rattle.states.proofs.Idling.{idle-ahead, slight-free, fine-passed, fine-noticed, slight-judged, slight-not, slight-entered, sound-after}
 use Rattle.format.specs.Fields as fields
 use Rattle.format.specs.Rules as rules
@@ -132,10 +132,10 @@ module _ {s : List ℕ} {n : ℕ} {rows seen : List ℕ} {met : ℕ} {st : State
           let l = lt-of-not-le k in
           lacks-bits q (fieldAt (st .todo .node)) (drop (st .at) bs) field-is (rw length-rest (omega (arith, i .here, i .within)))
 
-  pub ends-short : t ≡ Short
-      → read paper bs ≡ refused (record { kind = Ended; place = packetPlace Ended (view [] st) 0 })
-  unfolding read
-  ends-short h = refused-lacking fromBits bitsIn Sent from-bits bs (i .drives) (lacks-field h) (same-place Ended st 0)
+  pub ends-short : t ≡ Short → (end : ℕ)
+      → read paper bs ≡ refused (record { kind = Ended; place = placeFrom Ended (st .at) end (contextOf [] st) })
+  unfolding read fieldPlace placeFrom spotOf spotAt
+  ends-short h end = refused-lacking fromBits bitsIn Sent from-bits bs (i .drives) (lacks-field h) (λ l. refl)
 
   module _ {v : ℕ} {next : Cursor} (h : t ≡ Field v next) where
     is-field : IsField s n w (c .at) v (next .at)
@@ -156,11 +156,16 @@ module _ {s : List ℕ} {n : ℕ} {rows seen : List ℕ} {met : ℕ} {st : State
         has-bits q (fieldAt (st .todo .node)) (drop (st .at) bs) field-is (rw length-rest (omega (arith, i .here, i .within)))
         ∙ rw (← ew, value-is, drop-drop w (st .at) bs)
 
+    -- where it ends
+    next-is : next .at ≡ st .at + fieldAt (st .todo .node) .width
+    next-is = is-field .past ∙ rw (i .here, ew)
+
     module _ {out : Outcome} (o : Passed seen met st v out) where
       pub ends-broken : {k : Kind} → out ≡ Breaks k
-          → read paper bs ≡ refused (record { kind = k; place = packetPlace k (view [] st) v })
+          → read paper bs ≡ refused (record { kind = k; place = placeFrom k (st .at) (next .at) (contextOf [] st) })
       unfolding read
-      ends-broken b = refused-broken fromBits bitsIn Sent from-bits bs (i .drives) has-field o b (same-place _ st v)
+      ends-broken b =
+          refused-broken fromBits bitsIn Sent from-bits bs (i .drives) has-field o b (placed fromBits bitsIn Sent from-bits bs (i .drives) _ v next-is)
 
       pub ends-well : out ≡ Over → next .at ≡ n → Accepted (count + 1) ≡ answerOf (read paper bs)
       unfolding read
@@ -170,12 +175,12 @@ module _ {s : List ℕ} {n : ℕ} {rows seen : List ℕ} {met : ℕ} {st : State
           rw (accepted-mark fromBits bitsIn Sent from-bits bs (i .drives) has-field o b all-read, mark-counted fromBits bitsIn Sent from-bits bs (i .drives) has-field o)
 
       pub ends-trailing : out ≡ Over → (next .at ≡ n → ⊥)
-          → read paper bs ≡ refused (record { kind = Trailing; place = packetPlace Trailing (view [] st) v })
+          → read paper bs ≡ refused (record { kind = Trailing; place = placeFrom Trailing (st .at) (next .at) (contextOf [] st) })
       unfolding read
       ends-trailing b z =
           let rest : 0 < length (drop (st .at + w) bs) =
           rw (length-drop, length-telegram s n (i .wide)) (omega (arith, is-field .past, is-field .within, i .here)) in
-          refused-trailing fromBits bitsIn Sent from-bits bs (i .drives) has-field o b rest (same-place Trailing st v)
+          refused-trailing fromBits bitsIn Sent from-bits bs (i .drives) has-field o b rest (placed fromBits bitsIn Sent from-bits bs (i .drives) Trailing v next-is)
 
       module _ {after : State} (g : out ≡ Go after) where
         at-is : after .at ≡ st .at + w

@@ -13,7 +13,7 @@ pub use earlier::collides;
 use format::Kind;
 pub use packet::closes;
 pub use packet::noted;
-pub use packet::refused;
+pub use packet::spot;
 pub use short::slight;
 pub use short::unread;
 pub use size::sized;

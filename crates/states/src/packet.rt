@@ -1,11 +1,11 @@
-// What later rules go by: what a packet's values leave for them, and whether a packet that ends is as long as it said.
+// What later rules go by: what a packet's values leave for them, whether a packet that ends is as long as it said, and what a refusal
+// points at.
 ghost use mathlib.Core.Path.{_≡_};
 ghost use mathlib.Core.List.{List};
 ghost use Prim.Native.Nat.{_-_};
-ghost use Rattle.format.specs.Rules.{Earlier, packetPlace};
+ghost use Rattle.format.specs.Rules.{Earlier, misfit, spotOf};
 ghost use Rattle.format.specs.Rules as rules;
-ghost use Rattle.format.specs.declared.Answer.the-variants.{Refused};
-ghost use Rattle.states.specs.Machine.{Noted, contextOf, levelOf, view};
+ghost use Rattle.states.specs.Machine.{Noted, contextOf, levelOf};
 use crate::Level;
 use crate::State;
 use crate::codes::DIRECTION;
@@ -13,9 +13,9 @@ use crate::codes::PACKET;
 use crate::codes::PIG;
 use crate::codes::SIZE;
 use crate::codes::USER;
-use format::Answer;
 use format::Kind;
-use format::Refusal;
+use format::Spot;
+use format::number;
 
 // ---- what a value leaves for later rules
 
@@ -129,22 +129,33 @@ fn since(at: usize, from: usize) -> u64
 
 // ---- a refusal
 
-// The refusal at the field that is due, which holds v; 0 where there is no value.
-pub fn refused(kind: Kind, s: State, v: u64) -> Answer
-    ensures { λ r. ⌜ ((l : List Earlier) → r ≡ Refused (record { kind = kind; place = packetPlace kind (view l s) v })) ⌝ }
+// What a refusal points at, found at the field that is due, which ends at the bit end.
+pub fn spot(kind: Kind, s: State, end: usize) -> Spot
+    ensures { λ r. ⌜ ((l : List Earlier) → r ≡ spotOf kind end (contextOf l s)) ⌝ }
 {
-    let place = place(kind, s, v);
-    Answer::Refused(Refusal { kind, place })
+    let n = number(kind);
+    if n == 8 {
+        return misfit(s, end);
+    }
+    if n == 11 {
+        return Spot::Behind;
+    }
+    Spot::Due
 }
 
-// Its place.
-fn place(k: Kind, s: State, v: u64) -> usize
-    ensures { λ r. ⌜ ((l : List Earlier) → r ≡ packetPlace k (view l s) v) ⌝ }
+// The L_PACKET that is wrong where a packet ends at the bit end, the inner one tested first.
+fn misfit(s: State, end: usize) -> Spot
+    ensures { λ r. ⌜ ((l : List Earlier) → r ≡ misfit end (contextOf l s)) ⌝ }
 {
     let l = s.level;
     match l {
-        Level::Header => 0,
-        Level::Packet => s.start,
-        Level::User => s.start,
+        Level::Header => Spot::Due,
+        Level::Packet => Spot::Outer,
+        Level::User => {
+            if since(end, s.userstart) != s.userlong {
+                return Spot::Inner;
+            }
+            Spot::Outer
+        }
     }
 }

@@ -1,12 +1,40 @@
 // Refusals as answers.
 ghost use mathlib.Core.Path.{_≡_};
+ghost use mathlib.Core.List.{List};
+ghost use Prim.Native.Nat.{_≤_};
+ghost use Rattle.format.specs.Rules.{Earlier, placeFrom};
 ghost use Rattle.format.specs.declared.Answer.the-variants.{Refused};
+ghost use Rattle.states.specs.Machine.{contextOf};
 use format::Answer;
 use format::Kind;
 use format::Refusal;
+use format::Spot;
+use states::State;
+use states::spot;
 
 pub(crate) fn refuse(kind: Kind, place: usize) -> Answer
     ensures { λ r. ⌜ r ≡ Refused (record { kind = kind; place = place }) ⌝ }
 {
     Answer::Refused(Refusal { kind, place })
+}
+
+// The refusal that is found at the field that is due, which ends at the bit end.
+pub(crate) fn refused(kind: Kind, s: State, end: usize) -> Answer
+    requires { ⌜ (s .start ≤ 65536) × (s .userstart ≤ 65536) ⌝ }
+    ensures { λ r. ⌜ ((l : List Earlier) → r ≡ Refused (record { kind = kind; place = placeFrom kind (s .at) end (contextOf l s) })) ⌝ }
+{
+    refuse(kind, place(kind, s, end))
+}
+
+// The bit where what it points at begins. An L_PACKET stands behind NID_PACKET 8 and Q_DIR 2, or behind NID_XUSER 9 and Q_DIR 2.
+fn place(kind: Kind, s: State, end: usize) -> usize
+    requires { ⌜ (s .start ≤ 65536) × (s .userstart ≤ 65536) ⌝ }
+    ensures { λ r. ⌜ ((l : List Earlier) → r ≡ placeFrom kind (s .at) end (contextOf l s)) ⌝ }
+{
+    match spot(kind, s, end) {
+        Spot::Due => s.at,
+        Spot::Behind => end,
+        Spot::Outer => s.start + 10,
+        Spot::Inner => s.userstart + 11,
+    }
 }

@@ -11,6 +11,7 @@ ghost use Rattle.states.specs.Reader.{clear, checked, answerOf, Read};
 ghost use Rattle.states.specs.Filling.{Filling, Filled};
 ghost use Rattle.states.proofs.Scanning.{Scans};
 use crate::answer::refuse;
+use crate::answer::refused;
 use crate::driver::drift;
 use crate::driver::ease;
 use crate::driver::keep;
@@ -34,7 +35,6 @@ use states::Outcome;
 use states::State;
 use states::Todo;
 use states::closes;
-use states::refused;
 use states::sized;
 
 // Whether the bytes and n are a telegram: Accepted with the count of its values, or its refusal.
@@ -125,7 +125,7 @@ fn walk(
             continue;
         }
         let Taken::Field(v, next) = c.take(s, n, width(rows, t.node)) else {
-            return refused(Kind::Ended, st, 0);
+            return refused(Kind::Ended, st, st.at);
         };
         match ease(rows, t, v) {
             Easy::To(u) => {
@@ -145,13 +145,13 @@ fn walk(
         }
         match turn(rows, seen, met, st, v) {
             Outcome::Breaks(kind) => {
-                return refused(kind, st, v);
+                return refused(kind, st, next.at);
             }
             Outcome::Over => {
                 if next.at == n {
                     return Answer::Accepted(count + 1);
                 }
-                return refused(Kind::Trailing, st, v);
+                return refused(Kind::Trailing, st, next.at);
             }
             Outcome::Go(after) => {
                 met = keep(rows, seen, met, st, v);

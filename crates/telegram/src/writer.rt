@@ -6,6 +6,7 @@ ghost use Rattle.format.specs.Rules.{paper};
 ghost use Rattle.format.specs.Telegrams as telegrams;
 ghost use Rattle.states.specs.Writer.{sizeOf, Write, Storing, Stored};
 use crate::answer::refuse;
+use crate::answer::refused;
 use crate::driver::keep;
 use crate::driver::turn;
 use crate::rows::width;
@@ -17,7 +18,6 @@ use format::table;
 use states::Ahead;
 use states::Outcome;
 use states::Todo;
-use states::refused;
 
 // Writes the telegram with these values into out, and answers its n. A refusal leaves out as it was.
 pub fn write(values: &[u64], out: &mut [u8]) -> Answer
@@ -48,25 +48,26 @@ pub(crate) fn measure(values: &[u64]) -> Answer
         let t = st.todo;
         let k = t.node;
         let w = width(&rows, k);
+        let end = st.at + w;
         if values.len() <= i {
-            return refused(Kind::Ended, st, 0);
+            return refused(Kind::Ended, st, end);
         }
         let v = values[i];
         if !bits::fits(v, w) {
-            return refused(Kind::Wide, st, 0);
+            return refused(Kind::Wide, st, end);
         }
-        if 830 < st.at + w {
-            return refused(Kind::Full, st, 0);
+        if 830 < end {
+            return refused(Kind::Full, st, end);
         }
         match turn(&rows, &seen, met, st, v) {
             Outcome::Breaks(kind) => {
-                return refused(kind, st, v);
+                return refused(kind, st, end);
             }
             Outcome::Over => {
                 if i + 1 == values.len() {
-                    return Answer::Accepted(st.at + w);
+                    return Answer::Accepted(end);
                 }
-                return refused(Kind::Trailing, st, v);
+                return refused(Kind::Trailing, st, end);
             }
             Outcome::Go(after) => {
                 met = keep(&rows, &mut seen, met, st, v);

@@ -7,6 +7,7 @@ use native.Mathlib.Omega.{arith}
 use borrow.Author.Needs.{needs}
 use Rattle.states.specs.Reader.{answerOf}
 use Rattle.states.proofs.Drifting.{further}
+use Rattle.states.proofs.Driving.{starts-low}
 use Rattle.states.proofs.Heading.{led-id, led-dir, scans-led, less-led}
 use Rattle.states.proofs.Scanning.{Scans, scans-here, scans-drifted, scans-slight, scans-closed, less-slight, scans-on, fits, less, ends-short, ends-broken, ends-well, ends-trailing}
 use Rattle.telegram.proofs.reader.walk.Statement.{statement}
@@ -83,12 +84,14 @@ enum-told-2 : tie.Need-enum-told-2 Inv-loop μ-loop
 enum-told-2 c = search needs
 
 refused-requires : tie.Need-refused-requires Inv-loop μ-loop
-refused-requires c κs = search needs
+refused-requires c κs =
+    let i = scans-drifted (c .before .before .before .before .before .before .before .before .before .before .before .before .before .loop .inv) (c .before .before .before .before .before .before .before .before .before .before .before .before .drift .ensures) in
+    starts-low (i .drives .sound) (omega (arith, i .within, i .low))
 
 returns : tie.Need-returns Inv-loop μ-loop
 returns c =
     let i = scans-drifted (c .before .before .before .before .before .before .before .before .before .before .before .before .before .before .loop .inv) (c .before .before .before .before .before .before .before .before .before .before .before .before .before .drift .ensures) in
-    c .refused .ensures [] ∙ sym (ap answerOf (ends-short i (c .before .before .before .before .width .ensures) (c .before .before .before .take .ensures) (c .before .enum-told2 .given .1)))
+    c .refused .ensures [] ∙ sym (ap answerOf (ends-short i (c .before .before .before .before .width .ensures) (c .before .before .before .take .ensures) (c .before .enum-told2 .given .1) _))
 
 -- a value of which nothing is kept
 
@@ -165,7 +168,9 @@ enum-known-kind : tie.Need-enum-known-kind Inv-loop μ-loop
 enum-known-kind c = search needs
 
 refused-requires-2 : tie.Need-refused-requires-2 Inv-loop μ-loop
-refused-requires-2 c κs = search needs
+refused-requires-2 c κs =
+    let i = scans-drifted (c .before .before .before .before .before .before .before .before .before .before .before .before .before .before .before .before .before .before .before .before .before .before .loop .inv) (c .before .before .before .before .before .before .before .before .before .before .before .before .before .before .before .before .before .before .before .before .before .drift .ensures) in
+    starts-low (i .drives .sound) (omega (arith, i .within, i .low))
 
 returns-2 : tie.Need-returns-2 Inv-loop μ-loop
 returns-2 c =
@@ -186,7 +191,9 @@ returns-3 c =
     ends-well i (c .before .before .before .before .before .before .before .before .before .before .before .before .before .width .ensures) (c .before .before .before .before .before .before .before .before .before .before .before .before .take .ensures) (c .before .before .before .before .before .before .before .before .before .before .v .given .1) (c .before .before .before .before .turn .ensures) (c .before .before .enum-told5 .given .1) (c .if2 .taken)
 
 refused-requires-3 : tie.Need-refused-requires-3 Inv-loop μ-loop
-refused-requires-3 c κs = search needs
+refused-requires-3 c κs =
+    let i = scans-drifted (c .before .before .before .before .before .before .before .before .before .before .before .before .before .before .before .before .before .before .before .before .before .before .before .loop .inv) (c .before .before .before .before .before .before .before .before .before .before .before .before .before .before .before .before .before .before .before .before .before .before .drift .ensures) in
+    starts-low (i .drives .sound) (omega (arith, i .within, i .low))
 
 returns-4 : tie.Need-returns-4 Inv-loop μ-loop
 returns-4 c =

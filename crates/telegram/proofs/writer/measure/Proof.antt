@@ -9,6 +9,7 @@ use borrow.Author.Tests.{not-true, not-false}
 use lib.ListN.{length}
 use Rattle.format.specs.Table.{fieldAt}
 use Rattle.states.specs.Writer.{sizeOf}
+use Rattle.states.proofs.Driving.{starts-low}
 use Rattle.states.proofs.Stepping.{width-in}
 use Rattle.states.proofs.Measuring.{Measures, measures-first, measures-on, fits, ends-none, ends-wide, ends-full, ends-broken, ends-well, ends-trailing}
 use Rattle.telegram.proofs.writer.measure.Statement.{statement}
@@ -32,12 +33,17 @@ loop-holds c = measures-first (c .before .rows .ensures) refl (c .begin .ensures
 width-requires : tie.Need-width-requires Inv-loop μ-loop
 width-requires c κs = record { table = c .before .before .loop .inv .drives .table; inside = c .before .before .loop .inv .drives .sound .tidy .inside }
 
+add-end : tie.Need-add-end Inv-loop μ-loop
+add-end c =
+    let w = width-in (fieldAt (c .before .before .before .before .loop .st .todo .node)) in
+    omega (arith, c .before .before .before .before .loop .inv .low, c .before .width .ensures)
+
 refused-requires : tie.Need-refused-requires Inv-loop μ-loop
-refused-requires c κs = search needs
+refused-requires c κs = starts-low (c .before .before .before .before .before .loop .inv .drives .sound) (c .before .before .before .before .before .loop .inv .low)
 
 returns : tie.Need-returns Inv-loop μ-loop
 returns c =
-    c .refused .ensures [] ∙ sym (ap sizeOf (ends-none (c .before .before .before .before .before .loop .inv) (c .before .if1 .taken)))
+    c .refused .ensures [] ∙ sym (ap sizeOf (ends-none (c .before .before .before .before .before .before .loop .inv) (c .before .if1 .taken) _))
 
 mul-v : tie.Need-mul-v Inv-loop μ-loop
 mul-v c = search needs
@@ -49,24 +55,19 @@ fits-requires : tie.Need-fits-requires Inv-loop μ-loop
 fits-requires c κs = search needs
 
 refused-requires-2 : tie.Need-refused-requires-2 Inv-loop μ-loop
-refused-requires-2 c κs = search needs
+refused-requires-2 c κs = starts-low (c .before .before .before .before .before .before .before .before .loop .inv .drives .sound) (c .before .before .before .before .before .before .before .before .loop .inv .low)
 
 returns-2 : tie.Need-returns-2 Inv-loop μ-loop
 returns-2 c =
     c .refused2 .ensures []
-    ∙ sym (ap sizeOf (ends-wide (c .before .before .before .before .before .before .before .before .loop .inv) (c .before .before .before .before .if1 .left) (c .before .before .before .before .before .width .ensures) (sym (c .before .before .fits2 .ensures) ∙ not-true _ (c .before .if2 .taken))))
-
-add-if3 : tie.Need-add-if3 Inv-loop μ-loop
-add-if3 c =
-    let w = width-in (fieldAt (c .before .before .before .before .before .before .before .before .loop .st .todo .node)) in
-    omega (arith, c .before .before .before .before .before .before .before .before .loop .inv .low, c .before .before .before .before .before .width .ensures)
+    ∙ sym (ap sizeOf (ends-wide (c .before .before .before .before .before .before .before .before .before .loop .inv) (c .before .before .before .before .if1 .left) (c .before .before .before .before .before .before .width .ensures) (sym (c .before .before .fits2 .ensures) ∙ not-true _ (c .before .if2 .taken)) _))
 
 refused-requires-3 : tie.Need-refused-requires-3 Inv-loop μ-loop
-refused-requires-3 c κs = search needs
+refused-requires-3 c κs = starts-low (c .before .before .before .before .before .before .before .before .before .loop .inv .drives .sound) (c .before .before .before .before .before .before .before .before .before .loop .inv .low)
 
 returns-3 : tie.Need-returns-3 Inv-loop μ-loop
 returns-3 c =
-    c .refused3 .ensures [] ∙ sym (ap sizeOf (ends-full (c .before .before .before .before .before .before .before .before .before .before .loop .inv) (c .before .before .before .before .before .before .if1 .left) (c .before .before .before .before .before .before .before .width .ensures) (sym (c .before .before .before .before .fits2 .ensures) ∙ not-false _ (c .before .before .before .if2 .left)) (c .before .if3 .taken)))
+    c .refused3 .ensures [] ∙ sym (ap sizeOf (ends-full (c .before .before .before .before .before .before .before .before .before .before .loop .inv) (c .before .before .before .before .before .if1 .left) (c .before .before .before .before .before .before .before .width .ensures) (sym (c .before .before .before .fits2 .ensures) ∙ not-false _ (c .before .before .if2 .left)) (c .before .if3 .taken) _))
 
 slice-aggregate-turn : tie.Need-slice-aggregate-turn Inv-loop μ-loop
 slice-aggregate-turn c = sym (c .before .before .before .before .before .before .before .before .before .before .before .loop .inv .drives .long)
@@ -75,7 +76,7 @@ turn-requires : tie.Need-turn-requires Inv-loop μ-loop
 turn-requires c κs =
     let m = c .before .before .before .before .before .before .before .before .before .before .before .loop .inv in
     record {
-      stepping = record { table = m .drives .table; sound = m .drives .sound; low = omega (arith, m .low); fits = fits (c .before .before .before .before .before .before .before .before .before .before .before .loop .inv) (c .before .before .before .before .before .before .before .if1 .left) (c .before .before .before .before .before .before .before .before .width .ensures) (sym (c .before .before .before .before .before .fits2 .ensures) ∙ not-false _ (c .before .before .before .before .if2 .left)) };
+      stepping = record { table = m .drives .table; sound = m .drives .sound; low = omega (arith, m .low); fits = fits (c .before .before .before .before .before .before .before .before .before .before .before .loop .inv) (c .before .before .before .before .before .before .if1 .left) (c .before .before .before .before .before .before .before .before .width .ensures) (sym (c .before .before .before .before .fits2 .ensures) ∙ not-false _ (c .before .before .before .if2 .left)) };
       inside = omega (arith, m .drives .noted, m .low, m .drives .long);
     }
 
@@ -83,11 +84,11 @@ enum-known-kind : tie.Need-enum-known-kind Inv-loop μ-loop
 enum-known-kind c = search needs
 
 refused-requires-4 : tie.Need-refused-requires-4 Inv-loop μ-loop
-refused-requires-4 c κs = search needs
+refused-requires-4 c κs = starts-low (c .before .before .before .before .before .before .before .before .before .before .before .before .before .before .before .loop .inv .drives .sound) (c .before .before .before .before .before .before .before .before .before .before .before .before .before .before .before .loop .inv .low)
 
 returns-4 : tie.Need-returns-4 Inv-loop μ-loop
 returns-4 c =
-    c .refused4 .ensures [] ∙ sym (ap sizeOf (ends-broken (c .before .before .before .before .before .before .before .before .before .before .before .before .before .before .before .before .loop .inv) (c .before .before .before .before .before .before .before .before .before .before .before .before .if1 .left) (c .before .before .before .before .before .before .before .before .before .before .before .before .before .width .ensures) (sym (c .before .before .before .before .before .before .before .before .before .before .fits2 .ensures) ∙ not-false _ (c .before .before .before .before .before .before .before .before .before .if2 .left)) (c .before .before .before .before .before .before .before .if3 .left) (c .before .before .before .before .turn .ensures) (c .before .before .kind .given .1)))
+    c .refused4 .ensures [] ∙ sym (ap sizeOf (ends-broken (c .before .before .before .before .before .before .before .before .before .before .before .before .before .before .before .before .loop .inv) (c .before .before .before .before .before .before .before .before .before .before .before .if1 .left) (c .before .before .before .before .before .before .before .before .before .before .before .before .before .width .ensures) (sym (c .before .before .before .before .before .before .before .before .before .fits2 .ensures) ∙ not-false _ (c .before .before .before .before .before .before .before .before .if2 .left)) (c .before .before .before .before .before .before .before .if3 .left) (c .before .before .before .before .turn .ensures) (c .before .before .kind .given .1)))
 
 enum-told : tie.Need-enum-told Inv-loop μ-loop
 enum-told c = search needs
@@ -95,21 +96,16 @@ enum-told c = search needs
 add-if4 : tie.Need-add-if4 Inv-loop μ-loop
 add-if4 c = omega arith
 
-add-t30 : tie.Need-add-t30 Inv-loop μ-loop
-add-t30 c =
-    let w = width-in (fieldAt (c .before .before .before .before .before .before .before .before .before .before .before .before .before .before .before .before .loop .st .todo .node)) in
-    omega (arith, c .before .before .before .before .before .before .before .before .before .before .before .before .before .before .before .before .loop .inv .low, c .before .before .before .before .before .before .before .before .before .before .before .before .before .width .ensures)
-
 returns-5 : tie.Need-returns-5 Inv-loop μ-loop
-returns-5 c = ends-well (c .before .before .before .before .before .before .before .before .before .before .before .before .before .before .before .before .loop .inv) (c .before .before .before .before .before .before .before .before .before .before .before .before .if1 .left) (c .before .before .before .before .before .before .before .before .before .before .before .before .before .width .ensures) (sym (c .before .before .before .before .before .before .before .before .before .before .fits2 .ensures) ∙ not-false _ (c .before .before .before .before .before .before .before .before .before .if2 .left)) (c .before .before .before .before .before .before .before .if3 .left) (c .before .before .before .before .turn .ensures) (c .before .before .enum-told .given .1) (c .before .if4 .taken)
+returns-5 c = ends-well (c .before .before .before .before .before .before .before .before .before .before .before .before .before .before .before .loop .inv) (c .before .before .before .before .before .before .before .before .before .before .if1 .left) (c .before .before .before .before .before .before .before .before .before .before .before .before .width .ensures) (sym (c .before .before .before .before .before .before .before .before .fits2 .ensures) ∙ not-false _ (c .before .before .before .before .before .before .before .if2 .left)) (c .before .before .before .before .before .before .if3 .left) (c .before .before .before .turn .ensures) (c .before .enum-told .given .1) (c .if4 .taken)
 
 refused-requires-5 : tie.Need-refused-requires-5 Inv-loop μ-loop
-refused-requires-5 c κs = search needs
+refused-requires-5 c κs = starts-low (c .before .before .before .before .before .before .before .before .before .before .before .before .before .before .before .loop .inv .drives .sound) (c .before .before .before .before .before .before .before .before .before .before .before .before .before .before .before .loop .inv .low)
 
 returns-6 : tie.Need-returns-6 Inv-loop μ-loop
 returns-6 c =
     c .refused5 .ensures []
-    ∙ sym (ap sizeOf (ends-trailing (c .before .before .before .before .before .before .before .before .before .before .before .before .before .before .before .before .loop .inv) (c .before .before .before .before .before .before .before .before .before .before .before .before .if1 .left) (c .before .before .before .before .before .before .before .before .before .before .before .before .before .width .ensures) (sym (c .before .before .before .before .before .before .before .before .before .before .fits2 .ensures) ∙ not-false _ (c .before .before .before .before .before .before .before .before .before .if2 .left)) (c .before .before .before .before .before .before .before .if3 .left) (c .before .before .before .before .turn .ensures) (c .before .before .enum-told .given .1) (c .before .if4 .left)))
+    ∙ sym (ap sizeOf (ends-trailing (c .before .before .before .before .before .before .before .before .before .before .before .before .before .before .before .before .loop .inv) (c .before .before .before .before .before .before .before .before .before .before .before .if1 .left) (c .before .before .before .before .before .before .before .before .before .before .before .before .before .width .ensures) (sym (c .before .before .before .before .before .before .before .before .before .fits2 .ensures) ∙ not-false _ (c .before .before .before .before .before .before .before .before .if2 .left)) (c .before .before .before .before .before .before .before .if3 .left) (c .before .before .before .before .turn .ensures) (c .before .before .enum-told .given .1) (c .before .if4 .left)))
 
 enum-known-after : tie.Need-enum-known-after Inv-loop μ-loop
 enum-known-after c = search needs
@@ -121,18 +117,18 @@ keep-requires : tie.Need-keep-requires Inv-loop μ-loop
 keep-requires c κs =
     let m = c .before .before .before .before .before .before .before .before .before .before .before .before .before .before .before .before .before .loop .inv in
     record {
-      stepping = record { table = m .drives .table; sound = m .drives .sound; low = omega (arith, m .low); fits = fits (c .before .before .before .before .before .before .before .before .before .before .before .before .before .before .before .before .before .loop .inv) (c .before .before .before .before .before .before .before .before .before .before .before .before .before .if1 .left) (c .before .before .before .before .before .before .before .before .before .before .before .before .before .before .width .ensures) (sym (c .before .before .before .before .before .before .before .before .before .before .before .fits2 .ensures) ∙ not-false _ (c .before .before .before .before .before .before .before .before .before .before .if2 .left)) };
+      stepping = record { table = m .drives .table; sound = m .drives .sound; low = omega (arith, m .low); fits = fits (c .before .before .before .before .before .before .before .before .before .before .before .before .before .before .before .before .before .loop .inv) (c .before .before .before .before .before .before .before .before .before .before .before .before .if1 .left) (c .before .before .before .before .before .before .before .before .before .before .before .before .before .before .width .ensures) (sym (c .before .before .before .before .before .before .before .before .before .before .fits2 .ensures) ∙ not-false _ (c .before .before .before .before .before .before .before .before .before .if2 .left)) };
       inside = omega (arith, m .drives .noted, m .low, m .drives .long);
     }
 
 add-i : tie.Need-add-i Inv-loop μ-loop
-add-i c = omega (arith, c .before .before .before .before .before .before .before .before .before .before .before .before .before .before .before .before .before .before .before .before .before .before .before .good, c .before .before .before .before .before .before .before .before .before .before .before .before .before .before .before .if1 .left)
+add-i c = omega (arith, c .before .before .before .before .before .before .before .before .before .before .before .before .before .before .before .before .before .before .before .before .before .before .before .good, c .before .before .before .before .before .before .before .before .before .before .before .before .before .before .if1 .left)
 
 loop-less : tie.Need-loop-less Inv-loop μ-loop
 loop-less c = omega arith
 
 loop-again : tie.Need-loop-again Inv-loop μ-loop
-loop-again c = measures-on (c .before .before .before .before .before .before .before .before .before .before .before .before .before .before .before .before .before .before .before .loop .inv) (c .before .before .before .before .before .before .before .before .before .before .before .before .before .before .before .if1 .left) (c .before .before .before .before .before .before .before .before .before .before .before .before .before .before .before .before .width .ensures) (sym (c .before .before .before .before .before .before .before .before .before .before .before .before .before .fits2 .ensures) ∙ not-false _ (c .before .before .before .before .before .before .before .before .before .before .before .before .if2 .left)) (c .before .before .before .before .before .before .before .before .before .before .if3 .left) (c .before .before .before .before .before .before .before .turn .ensures) (c .before .before .before .before .before .after .given .1) (c .before .keep .ensures)
+loop-again c = measures-on (c .before .before .before .before .before .before .before .before .before .before .before .before .before .before .before .before .before .before .before .loop .inv) (c .before .before .before .before .before .before .before .before .before .before .before .before .before .before .if1 .left) (c .before .before .before .before .before .before .before .before .before .before .before .before .before .before .before .before .width .ensures) (sym (c .before .before .before .before .before .before .before .before .before .before .before .before .fits2 .ensures) ∙ not-false _ (c .before .before .before .before .before .before .before .before .before .before .before .if2 .left)) (c .before .before .before .before .before .before .before .before .before .before .if3 .left) (c .before .before .before .before .before .before .before .turn .ensures) (c .before .before .before .before .before .after .given .1) (c .before .keep .ensures)
 
 pub measure-spec : {M : Type 1} → statement M
 measure-spec =
@@ -144,6 +140,7 @@ measure-spec =
     begin-requires
     loop-holds
     width-requires
+    add-end
     refused-requires
     returns
     mul-v
@@ -151,7 +148,6 @@ measure-spec =
     fits-requires
     refused-requires-2
     returns-2
-    add-if3
     refused-requires-3
     returns-3
     slice-aggregate-turn
@@ -161,7 +157,6 @@ measure-spec =
     returns-4
     enum-told
     add-if4
-    add-t30
     returns-5
     refused-requires-5
     returns-6
