@@ -12,4 +12,5 @@ pub mod Written
 pub mod Taken
 pub mod Back
 pub mod ThereAndBack
+pub mod Placing
 pub mod Once
