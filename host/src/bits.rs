@@ -1,7 +1,7 @@
 //! Fields out of bits, by 64-bit windows.
 
 use crate::field::{Field, Role};
-use crate::refusal::Rule;
+use crate::refusal::{Refusal, Rule};
 use crate::source::Fields;
 
 /// A window begins within the byte of its first bit, so this many bits are certain to be in it.
@@ -35,20 +35,21 @@ impl<'a, O: Observer> BitFields<'a, O> {
         }
     }
 
-    /// What a run breaks that does not fit: an earlier field of it may hold a wrong value.
+    /// What fields break that do not all fit: one before the end may hold a wrong value. Those
+    /// past the end are not looked at, so that there may be any number of them.
     #[cold]
-    fn first_fault(&self, run: &[Field]) -> Rule {
+    fn first_fault<'f>(&self, fields: impl Iterator<Item = &'f Field>) -> Refusal {
         let mut at = self.position;
-        for field in run {
+        for field in fields {
             if self.end - at < field.width {
                 break;
             }
             if !field.allows(value_at(self.bytes, at, field.width)) {
-                return field.broken;
+                return Refusal::new(field.broken, at);
             }
             at += field.width;
         }
-        Rule::Ended
+        Refusal::new(Rule::Ended, at)
     }
 }
 
@@ -64,30 +65,36 @@ impl<O: Observer> Fields for BitFields<'_, O> {
     }
 
     #[inline(always)]
-    fn take<const K: usize>(&mut self, run: &'static [Field; K]) -> Result<[u64; K], Rule> {
+    fn take<const K: usize>(&mut self, run: &'static [Field; K]) -> Result<[u64; K], Refusal> {
         let span = width(run);
         if self.end - self.position < span {
-            return Err(self.first_fault(run));
+            return Err(self.first_fault(run.iter()));
         }
         let start = self.position;
         let values = split(self.bytes, start, run);
+        let mut at = start;
         for (field, value) in run.iter().zip(values) {
             if !field.allows(value) {
-                return Err(field.broken);
+                return Err(Refusal::new(field.broken, at));
             }
+            at += field.width;
         }
         self.observer.see(start, run, &values);
-        self.position += span;
+        self.position = at;
         Ok(values)
     }
 
     #[inline(always)]
-    fn repeat<const K: usize>(&mut self, times: u64, run: &'static [Field; K]) -> Result<(), Rule> {
+    fn repeat<const K: usize>(
+        &mut self,
+        times: u64,
+        run: &'static [Field; K],
+    ) -> Result<(), Refusal> {
         let ruled = run.iter().any(|field| !field.allows_anything());
         if !ruled && self.observer.pass(times, run) {
             let span = times as usize * width(run);
             if self.end - self.position < span {
-                return Err(Rule::Ended);
+                return Err(self.first_fault(run.iter().cycle()));
             }
             self.position += span;
             return Ok(());

@@ -1,22 +1,24 @@
 //! The CTCS packets, which travel inside ETCS-44, a function to a kind.
 
 use crate::field::*;
-use crate::refusal::Rule;
+use crate::length::Length;
+use crate::refusal::{Refusal, Rule};
 use crate::source::Fields;
 
 /// The one packet inside an ETCS-44 of the given direction.
 #[inline(always)]
-pub(crate) fn packet<F: Fields>(fields: &mut F, outer_direction: u64) -> Result<(), Rule> {
+pub(crate) fn packet<F: Fields>(fields: &mut F, outer_direction: u64) -> Result<(), Refusal> {
     let start = fields.position();
     let [identifier] = fields.take(&[NID_XUSER])?;
     if !(1..=5).contains(&identifier) {
-        return Err(Rule::Unknown);
+        return Err(Refusal::new(Rule::Unknown, start));
     }
+    let direction_at = fields.position();
     let [direction] = fields.take(&[Q_DIR])?;
     if direction != outer_direction {
-        return Err(Rule::InnerDirection);
+        return Err(Refusal::new(Rule::InnerDirection, direction_at));
     }
-    let [length] = fields.take(&[L_PACKET])?;
+    let length = Length::take(fields, start)?;
     match identifier {
         1 => signals(fields),
         2 => speed_restrictions(fields),
@@ -24,15 +26,12 @@ pub(crate) fn packet<F: Fields>(fields: &mut F, outer_direction: u64) -> Result<
         4 => turnout(fields),
         _ => stop(fields),
     }?;
-    if (fields.position() - start) as u64 != length {
-        return Err(Rule::PacketLength);
-    }
-    Ok(())
+    length.hold(fields)
 }
 
 /// CTCS-1.
 #[inline(always)]
-fn signals<F: Fields>(fields: &mut F) -> Result<(), Rule> {
+fn signals<F: Fields>(fields: &mut F) -> Result<(), Refusal> {
     let [.., more] = fields.take(&[
         Q_SCALE,
         D_SIGNAL,
@@ -46,28 +45,28 @@ fn signals<F: Fields>(fields: &mut F) -> Result<(), Rule> {
 
 /// CTCS-2.
 #[inline(always)]
-fn speed_restrictions<F: Fields>(fields: &mut F) -> Result<(), Rule> {
+fn speed_restrictions<F: Fields>(fields: &mut F) -> Result<(), Refusal> {
     let [.., more] = fields.take(&[Q_SCALE, L_TSRarea, D_TSR, L_TSR, Q_FRONT, V_TSR, N_ITER])?;
     fields.repeat(more, &[D_TSR, L_TSR, Q_FRONT, V_TSR])
 }
 
 /// CTCS-3.
 #[inline(always)]
-fn reverse_area<F: Fields>(fields: &mut F) -> Result<(), Rule> {
+fn reverse_area<F: Fields>(fields: &mut F) -> Result<(), Refusal> {
     fields.take(&[Q_SCALE, D_STARTREVERSE, L_REVERSEAREA])?;
     Ok(())
 }
 
 /// CTCS-4.
 #[inline(always)]
-fn turnout<F: Fields>(fields: &mut F) -> Result<(), Rule> {
+fn turnout<F: Fields>(fields: &mut F) -> Result<(), Refusal> {
     fields.take(&[Q_SCALE, D_TURNOUT, V_TURNOUT])?;
     Ok(())
 }
 
 /// CTCS-5, the one without a scale.
 #[inline(always)]
-fn stop<F: Fields>(fields: &mut F) -> Result<(), Rule> {
+fn stop<F: Fields>(fields: &mut F) -> Result<(), Refusal> {
     fields.take(&[Q_STOP])?;
     Ok(())
 }

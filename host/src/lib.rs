@@ -10,6 +10,7 @@ pub mod corpus;
 mod ctcs;
 mod etcs;
 mod field;
+mod length;
 mod normal;
 mod refusal;
 pub mod sheet;

@@ -19,12 +19,13 @@ pub(crate) enum Rule {
     Full = 13,
 }
 
-/// A refusal: its number and the bit at which the outermost packet in hand begins.
+/// A refusal: its number and the bit where the offending field begins.
 #[derive(Clone, Copy, Debug, PartialEq, Eq)]
 pub struct Refusal {
     /// The refusal number, 1 to 13.
     pub number: u32,
-    /// The place, 0 for the lengths, the padding and the header.
+    /// The bit where the field begins, or would begin; for 11 the first one past the end mark, and
+    /// 0 for 1, 2 and 3, which are of no field.
     pub place: u64,
 }
 

@@ -1,12 +1,13 @@
 //! Where fields come from: the one view that the tables have of bits and of values.
 
 use crate::field::Field;
-use crate::refusal::Rule;
+use crate::refusal::Refusal;
 
 /// A source of fields in order of sending.
 ///
 /// Fields are taken in runs. A run ends where a value decides what follows, so that a source
-/// can test for room once per run; the first broken rule of the run is still the one given.
+/// can test for room once per run; the first broken rule of the run is still the one given, at the
+/// field that breaks it.
 pub(crate) trait Fields {
     /// The bit at which the next field begins.
     fn position(&self) -> usize;
@@ -15,11 +16,15 @@ pub(crate) trait Fields {
     fn is_exhausted(&self) -> bool;
 
     /// Takes a run of fields.
-    fn take<const K: usize>(&mut self, run: &'static [Field; K]) -> Result<[u64; K], Rule>;
+    fn take<const K: usize>(&mut self, run: &'static [Field; K]) -> Result<[u64; K], Refusal>;
 
     /// Takes the same run so many times, when none of its values matters to what follows.
     #[inline(always)]
-    fn repeat<const K: usize>(&mut self, times: u64, run: &'static [Field; K]) -> Result<(), Rule> {
+    fn repeat<const K: usize>(
+        &mut self,
+        times: u64,
+        run: &'static [Field; K],
+    ) -> Result<(), Refusal> {
         for _ in 0..times {
             self.take(run)?;
         }
@@ -31,8 +36,8 @@ pub(crate) trait Fields {
 #[inline(always)]
 pub(crate) fn list<F: Fields>(
     fields: &mut F,
-    group: impl Fn(&mut F) -> Result<(), Rule>,
-) -> Result<(), Rule> {
+    group: impl Fn(&mut F) -> Result<(), Refusal>,
+) -> Result<(), Refusal> {
     // One call for the first group and the others, so that its code is there only once.
     let mut left = None;
     loop {
@@ -73,7 +78,7 @@ impl<F: Fields> Fields for Noted<F> {
         self.source.is_exhausted()
     }
 
-    fn take<const K: usize>(&mut self, run: &'static [Field; K]) -> Result<[u64; K], Rule> {
+    fn take<const K: usize>(&mut self, run: &'static [Field; K]) -> Result<[u64; K], Refusal> {
         let values = self.source.take(run)?;
         self.taken.extend(run.iter().copied().zip(values));
         Ok(values)

@@ -1,6 +1,7 @@
 //! The telegram as a whole: header, packets, end mark.
 
 use crate::field::*;
+use crate::length::Length;
 use crate::refusal::{Refusal, Rule};
 use crate::source::Fields;
 use crate::{ctcs, etcs};
@@ -54,15 +55,13 @@ impl Kind {
 struct Met(u64);
 
 impl Met {
-    /// ETCS-44 alone may come as often as it likes.
+    /// Whether a packet may come here: ETCS-44 alone may come as often as it likes.
     #[inline(always)]
-    fn meet(&mut self, kind: Kind, direction: u64) -> Result<(), Rule> {
+    fn meet(&mut self, kind: Kind, direction: u64) -> bool {
         let bit = 1 << (4 * kind as u64 + direction);
-        if self.0 & bit != 0 && kind != Kind::Ctcs {
-            return Err(Rule::Repeated);
-        }
+        let is_new = self.0 & bit == 0;
         self.0 |= bit;
-        Ok(())
+        is_new || kind == Kind::Ctcs
     }
 }
 
@@ -74,42 +73,40 @@ enum Step {
 /// Goes through a telegram from the first field to the end mark.
 #[inline(always)]
 pub(crate) fn walk<F: Fields>(fields: &mut F) -> Result<(), Refusal> {
-    header(fields).map_err(|rule| Refusal::new(rule, 0))?;
+    header(fields)?;
     let mut met = Met::default();
-    loop {
-        let start = fields.position();
-        match step(fields, &mut met) {
-            Ok(Step::Packet) => {}
-            Ok(Step::EndMark) => return Ok(()),
-            Err(rule) => return Err(Refusal::new(rule, start)),
-        }
-    }
+    while let Step::Packet = step(fields, &mut met)? {}
+    Ok(())
 }
 
 #[inline(always)]
-fn header<F: Fields>(fields: &mut F) -> Result<(), Rule> {
+fn header<F: Fields>(fields: &mut F) -> Result<(), Refusal> {
     let [_, _, _, pig, total] = fields.take(&[Q_UPDOWN, M_VERSION, Q_MEDIA, N_PIG, N_TOTAL])?;
     if pig > total {
-        return Err(Rule::Header);
+        let total_at = fields.position() - N_TOTAL.width;
+        return Err(Refusal::new(Rule::Header, total_at));
     }
     fields.take(&[M_DUP, M_MCOUNT, NID_C, NID_BG, Q_LINK])?;
     Ok(())
 }
 
 #[inline(always)]
-fn step<F: Fields>(fields: &mut F, met: &mut Met) -> Result<Step, Rule> {
+fn step<F: Fields>(fields: &mut F, met: &mut Met) -> Result<Step, Refusal> {
     let start = fields.position();
     let [identifier] = fields.take(&[NID_PACKET])?;
     if identifier == END_MARK {
         return match fields.is_exhausted() {
             true => Ok(Step::EndMark),
-            false => Err(Rule::Trailing),
+            false => Err(Refusal::new(Rule::Trailing, fields.position())),
         };
     }
-    let kind = Kind::of(identifier).ok_or(Rule::Unknown)?;
+    let kind = Kind::of(identifier).ok_or(Refusal::new(Rule::Unknown, start))?;
+    let direction_at = fields.position();
     let [direction] = fields.take(&[Q_DIR])?;
-    met.meet(kind, direction)?;
-    let [length] = fields.take(&[L_PACKET])?;
+    if !met.meet(kind, direction) {
+        return Err(Refusal::new(Rule::Repeated, direction_at));
+    }
+    let length = Length::take(fields, start)?;
     match kind {
         Kind::Linking => etcs::linking(fields),
         Kind::Gradients => etcs::gradients(fields),
@@ -126,8 +123,6 @@ fn step<F: Fields>(fields: &mut F, met: &mut Met) -> Result<Step, Rule> {
         Kind::StopInSr => etcs::stop_in_sr(fields),
         Kind::DefaultBalise => Ok(()),
     }?;
-    if (fields.position() - start) as u64 != length {
-        return Err(Rule::PacketLength);
-    }
+    length.hold(fields)?;
     Ok(Step::Packet)
 }

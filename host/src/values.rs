@@ -2,7 +2,7 @@
 
 use crate::bits::replace;
 use crate::field::Field;
-use crate::refusal::Rule;
+use crate::refusal::{Refusal, Rule};
 use crate::source::Fields;
 use crate::{MAX_BITS, MAX_BYTES};
 
@@ -36,18 +36,19 @@ impl Fields for ValueFields<'_> {
     }
 
     #[inline(always)]
-    fn take<const K: usize>(&mut self, run: &'static [Field; K]) -> Result<[u64; K], Rule> {
+    fn take<const K: usize>(&mut self, run: &'static [Field; K]) -> Result<[u64; K], Refusal> {
         let mut taken = [0; K];
         for (slot, field) in taken.iter_mut().zip(run) {
-            let value = *self.values.next().ok_or(Rule::Ended)?;
+            let refused = |rule| Refusal::new(rule, self.position);
+            let value = *self.values.next().ok_or(refused(Rule::Ended))?;
             if value > u64::MAX >> (64 - field.width) {
-                return Err(Rule::Width);
+                return Err(refused(Rule::Width));
             }
             if MAX_BITS - self.position < field.width {
-                return Err(Rule::Full);
+                return Err(refused(Rule::Full));
             }
             if !field.allows(value) {
-                return Err(field.broken);
+                return Err(refused(field.broken));
             }
             replace(&mut self.bytes, self.position, field.width, value);
             self.position += field.width;

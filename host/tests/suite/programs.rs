@@ -49,7 +49,7 @@ fn the_line_program() {
         lines(&format!("{EMPTY}\r\n{EMPTY}")),
         format!("{refused}{ok}")
     );
-    assert_eq!(lines(&format!("{EMPTY}0\n")), "refused 11 50\n");
+    assert_eq!(lines(&format!("{EMPTY}0\n")), "refused 11 58\n");
     // Another character counts even where a rule is broken before it.
     assert_eq!(lines(&format!("0{}x\n", &EMPTY[1..])), refused);
     assert_eq!(lines(&format!("0{}\n", &EMPTY[1..])), "refused 4 0\n");
@@ -66,7 +66,7 @@ fn long_lines_give_one_answer_each() {
         let expected = if length > 830 {
             "refused 2 0"
         } else {
-            "refused 11 50"
+            "refused 11 58"
         };
         let input = format!("{line}\n{EMPTY}\n{line}");
         assert_eq!(lines(&input), format!("{expected}\nok 58 11\n{expected}\n"));
@@ -144,12 +144,12 @@ fn the_sheets_program() {
     ] {
         assert_eq!(sheets("out", &wrong), refused, "{wrong}");
     }
-    assert_eq!(sheets("out", &format!("{EMPTY}0\n")), "refused 11 50\n");
+    assert_eq!(sheets("out", &format!("{EMPTY}0\n")), "refused 11 58\n");
     assert_eq!(sheets("in", EMPTY_SHEET), format!("{EMPTY}\n"));
     assert_eq!(sheets("in", ""), "refused 20 0\n");
     assert_eq!(
         sheets("in", &EMPTY_SHEET.replace(",16", ",17")),
-        "refused 4 0\n"
+        "refused 4 1\n"
     );
     assert_eq!(
         sheets("in", &EMPTY_SHEET.replace(",16", ",016")),

@@ -163,18 +163,18 @@ fn line_ends() {
 #[test]
 fn rows_that_do_for_the_row_test() {
     // They need not fit their width, and an end mark need not be one: the writer sees to that.
-    assert_eq!(import(&with_row(4, "N_PIG,3,8")), writer(12, 0));
+    assert_eq!(import(&with_row(4, "N_PIG,3,8")), writer(12, 9));
     assert_eq!(
         import(&with_row(4, "N_PIG,3,18446744073709551615")),
-        writer(12, 0)
+        writer(12, 9)
     );
     assert_eq!(
         import(&with_row(11, "END,8,18446744073709551615")),
         writer(12, 50)
     );
-    assert_eq!(import(&with_row(11, "END,8,254")), writer(5, 50));
+    assert_eq!(import(&with_row(11, "END,8,254")), writer(5, 58));
     assert_eq!(import(&with_row(11, "END,8,7")), writer(6, 50));
-    assert_eq!(import(&with_row(4, "N_PIG,3,2")), writer(4, 0));
+    assert_eq!(import(&with_row(4, "N_PIG,3,2")), writer(4, 12));
 }
 
 #[test]
@@ -198,7 +198,7 @@ fn radio_numbers() {
         );
     }
     for mixed in ["0861497002000FF2", "F861497002000FFF", "FFFFFFFFFFFFFFF0"] {
-        assert_eq!(import(&with_radio_number(mixed)), writer(7, 50));
+        assert_eq!(import(&with_radio_number(mixed)), writer(7, 98));
     }
 }
 
@@ -239,7 +239,7 @@ fn rows_come_before_values_and_values_before_names() {
     rows[1] = "M_VERSION,7,17";
     assert_eq!(import(&sheet(&rows)), Err(Refused::Row(11)));
     rows[10] = "END,8,255";
-    assert_eq!(import(&sheet(&rows)), writer(4, 0));
+    assert_eq!(import(&sheet(&rows)), writer(4, 1));
     rows[1] = "M_VERSION,7,16";
     assert_eq!(import(&sheet(&rows)), Err(Refused::Name(1)));
     rows[0] = "Q_UPDOWN,1,1";
@@ -248,13 +248,14 @@ fn rows_come_before_values_and_values_before_names() {
 
 #[test]
 fn values_that_end_early_or_go_on() {
-    assert_eq!(import(&sheet(&[])), writer(5, 0));
-    for rows in 1..10 {
-        assert_eq!(import(&sheet(&HEADER_ROWS[..rows])), writer(5, 0));
+    // Where the field of the row that is missing would begin.
+    let starts = [0, 1, 8, 9, 12, 15, 17, 25, 35, 49, 50];
+    for (rows, place) in starts.into_iter().enumerate() {
+        assert_eq!(import(&sheet(&HEADER_ROWS[..rows])), writer(5, place));
     }
-    assert_eq!(import(&sheet(&HEADER_ROWS)), writer(5, 50));
-    assert_eq!(import(&with_packet(&["END,8,255"])), writer(11, 50));
-    assert_eq!(import(&with_packet(&SESSION)), writer(5, 50));
+    assert_eq!(import(&with_packet(&["END,8,255"])), writer(11, 58));
+    // The end mark does for a radio number, and Q_SLEEPSESSION is missing.
+    assert_eq!(import(&with_packet(&SESSION)), writer(5, 162));
 }
 
 #[test]
@@ -264,8 +265,8 @@ fn as_many_rows_as_there_may_be() {
         all.resize(rows, "X_TEXT,8,0");
         sheet(&all)
     };
-    assert_eq!(import(&filled(829)), writer(11, 50));
-    assert_eq!(import(&filled(830)), writer(11, 50));
+    assert_eq!(import(&filled(829)), writer(11, 58));
+    assert_eq!(import(&filled(830)), writer(11, 58));
     for rows in [831, 832, 5000] {
         assert_eq!(import(&filled(rows)), Err(Refused::Row(831)));
     }

@@ -65,7 +65,7 @@ fn case_2_the_empty_telegram_spoilt() {
     let mut bytes = EMPTY;
     bytes[7] = 0xc1;
     assert_eq!(check(&bytes, 58), refusal(3, 0));
-    assert_eq!(check(&EMPTY, 59), refusal(11, 50));
+    assert_eq!(check(&EMPTY, 59), refusal(11, 58));
     assert_eq!(check(&EMPTY, 57), refusal(2, 0));
 }
 
@@ -89,22 +89,23 @@ fn case_3_lengths() {
         level_order(63, &level_1),
         level_order(71, &[(3, 0)]),
     ] {
-        refused(&telegram(&[packet]), 8, 50);
+        refused(&telegram(&[packet]), 8, 60);
     }
 }
 
 #[test]
 fn case_4_ctcs_2() {
     assert_eq!(accepted(&telegram(&[speed_restrictions([198, 221])])), 279);
-    refused(&telegram(&[speed_restrictions([198, 224])]), 8, 50);
-    refused(&telegram(&[speed_restrictions([221, 221])]), 8, 50);
+    refused(&telegram(&[speed_restrictions([198, 224])]), 8, 60);
+    // The inner L_PACKET, which stands behind the outer head and 11 bits.
+    refused(&telegram(&[speed_restrictions([221, 221])]), 8, 84);
 }
 
 #[test]
 fn case_5_texts() {
     assert_eq!(accepted(&telegram(&[text(164, 1, [10, 20], 9)])), 222);
     assert_eq!(accepted(&telegram(&[text(196, 1, [10, 20], 13)])), 254);
-    refused(&telegram(&[text(164, 1, [10, 20], 13)]), 8, 50);
+    refused(&telegram(&[text(164, 1, [10, 20], 13)]), 8, 60);
 }
 
 #[test]
@@ -118,7 +119,7 @@ fn case_7_radio_numbers() {
         assert_eq!(accepted(&telegram(&[session(radio)])), 171);
     }
     for radio in [0x0861_4970_0200_0ff2, 0xf << 60, 0xa, 0xffff_ffff_ffff_fffe] {
-        refused(&telegram(&[session(radio)]), 7, 50);
+        refused(&telegram(&[session(radio)]), 7, 98);
     }
 }
 
@@ -180,7 +181,7 @@ fn the_edges_of_the_normal_form() {
 
 #[test]
 fn repeats() {
-    refused(&telegram(&[danger(1), danger(1)]), 10, 74);
+    refused(&telegram(&[danger(1), danger(1)]), 10, 82);
     assert_eq!(accepted(&telegram(&[danger(0), danger(1)])), 106);
     let twice = [reverse_area(1, 1, 1), reverse_area(1, 1, 1)];
     assert_eq!(accepted(&telegram(&twice)), 58 + 158);
