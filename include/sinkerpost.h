@@ -1,8 +1,9 @@
 /* Sinkerpost: checking and normalising balise telegrams (TB/T 3484-2017), proved.
  *
  * A telegram is n bits, 58 to 830, in ceil(n/8) bytes, the first bit in the highest bit of byte 0, unused low bits of the last
- * byte 0. Both functions answer every input: 0, or 1,024 times the number of a refusal plus its place, a bit of the telegram.
- * They keep nothing between calls, allocate nothing and touch nothing but the bytes that they are lent.
+ * byte 0. Both functions answer every input: 0, or 1,024 times the number of a refusal plus its place, the bit, counted from 0, where
+ * the offending field begins or would begin. They keep nothing between calls, allocate nothing and touch nothing but the bytes that
+ * they are lent.
  *
  * What the caller answers for: `bytes` is `length` bytes that can be read, `out` is `room` bytes that can be written, and the two
  * do not overlap. A pointer is never null, not even with a length of 0.
@@ -24,7 +25,7 @@ uint64_t sinkerpost_check(const uint8_t *bytes, size_t length, uint64_t n);
  * were; a refusal changes none. */
 uint64_t sinkerpost_normalise(const uint8_t *bytes, size_t length, uint64_t n, uint8_t *out, size_t room);
 
-/* The number of a refusal, and its place. */
+/* The number of a refusal, and its place: 0 for 1 to 3, the L_PACKET for 8, the first bit past the end mark for 11. */
 #define SINKERPOST_NUMBER(answer) ((answer) / 1024)
 #define SINKERPOST_PLACE(answer) ((answer) % 1024)
 

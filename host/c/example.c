@@ -2,7 +2,7 @@
  *
  *     example 90027f8125dfffc0:58 90027f8125dfffc0:59
  *     ok 90027f8125dfffc0
- *     refused 11 50
+ *     refused 11 58
  */
 #include <inttypes.h>
 #include <stdio.h>
