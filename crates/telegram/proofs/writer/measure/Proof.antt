@@ -67,7 +67,7 @@ refused-requires-3 c κs = starts-low (c .before .before .before .before .before
 
 returns-3 : tie.Need-returns-3 Inv-loop μ-loop
 returns-3 c =
-    c .refused3 .ensures [] ∙ sym (ap sizeOf (ends-full (c .before .before .before .before .before .before .before .before .before .before .loop .inv) (c .before .before .before .before .before .if1 .left) (c .before .before .before .before .before .before .before .width .ensures) (sym (c .before .before .before .fits2 .ensures) ∙ not-false _ (c .before .before .if2 .left)) (c .before .if3 .taken) _))
+    c .refused3 .ensures [] ∙ sym (ap sizeOf (ends-full (c .before .before .before .before .before .before .before .before .before .before .loop .inv) (c .before .before .before .before .before .if1 .left) (c .before .before .before .before .before .before .before .width .ensures) (sym (c .before .before .before .fits2 .ensures) ∙ not-false _ (c .before .before .if2 .left)) (omega (arith, c .before .if3 .taken)) _))
 
 slice-aggregate-turn : tie.Need-slice-aggregate-turn Inv-loop μ-loop
 slice-aggregate-turn c = sym (c .before .before .before .before .before .before .before .before .before .before .before .loop .inv .drives .long)
