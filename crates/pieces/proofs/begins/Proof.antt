@@ -21,26 +21,27 @@ loop-holds c = (omega arith, refl)
 
 returns : tie.Need-returns Inv-loop μ-loop
 returns c =
-    sym (c .before .before .loop .inv .1 ∙ begins-none (now (c .before .before .before .args .piece)) (now (c .before .before .before .args .text)) (c .before .before .loop .i) (c .before .before .loop .j) (omega arith) (c .if1 .taken))
+    sym (c .before .before .loop .inv .1 ∙ begins-none (now (c .before .before .before .args .piece)) (now (c .before .before .before .args .text)) (c .before .before .loop .i) (c .before .before .loop .j) (omega arith) (omega arith))
 
-returns-2 : tie.Need-returns-2 Inv-loop μ-loop
-returns-2 c =
-    sym (c .before .before .before .before .before .loop .inv .1 ∙ begins-other (now (c .before .before .before .before .before .before .args .piece)) (now (c .before .before .before .before .before .before .args .text)) (c .before .before .before .before .before .loop .i) (c .before .before .before .before .before .loop .j) (omega arith) (omega arith) (c .if2 .taken))
-
-loop-again : tie.Need-loop-again Inv-loop μ-loop
-loop-again c = (
-  omega arith,
-  c .before .before .before .before .before .loop .inv .1 ∙ begins-more (now (c .before .before .before .before .before .before .args .piece)) (now (c .before .before .before .before .before .before .args .text)) (c .before .before .before .before .before .loop .i) (c .before .before .before .before .before .loop .j) (omega arith) (omega arith) (c .if2 .left),
-)
-
-returns-3 : tie.Need-returns-3 Inv-loop μ-loop
-returns-3 c = sym (c .before .loop .inv .1 ∙ begins-all (now (c .before .before .args .piece)) (now (c .before .before .args .text)) (c .before .loop .i) (c .before .loop .j) (omega arith))
-
+-- above the needs behind them, so that a read past the end is refused here
 shared-slice-read-if2 : tie.Need-shared-slice-read-if2 Inv-loop μ-loop
 shared-slice-read-if2 c = omega arith
 
 shared-slice-read-if2-2 : tie.Need-shared-slice-read-if2-2 Inv-loop μ-loop
 shared-slice-read-if2-2 c = omega arith
+
+returns-2 : tie.Need-returns-2 Inv-loop μ-loop
+returns-2 c =
+    sym (c .before .before .before .before .before .loop .inv .1 ∙ begins-other (now (c .before .before .before .before .before .before .args .piece)) (now (c .before .before .before .before .before .before .args .text)) (c .before .before .before .before .before .loop .i) (c .before .before .before .before .before .loop .j) (omega arith) (omega arith) (omega arith))
+
+loop-again : tie.Need-loop-again Inv-loop μ-loop
+loop-again c = (
+  omega arith,
+  c .before .before .before .before .before .loop .inv .1 ∙ begins-more (now (c .before .before .before .before .before .before .args .piece)) (now (c .before .before .before .before .before .before .args .text)) (c .before .before .before .before .before .loop .i) (c .before .before .before .before .before .loop .j) (omega arith) (omega arith) (omega arith),
+)
+
+returns-3 : tie.Need-returns-3 Inv-loop μ-loop
+returns-3 c = sym (c .before .loop .inv .1 ∙ begins-all (now (c .before .before .args .piece)) (now (c .before .before .args .text)) (c .before .loop .i) (c .before .loop .j) (omega arith))
 
 add-j : tie.Need-add-j Inv-loop μ-loop
 add-j c = omega arith
