@@ -23,12 +23,12 @@ shared-slice-read-if1-2 : tie.Need-shared-slice-read-if1-2 Inv-loop μ-loop
 shared-slice-read-if1-2 c = omega (arith, c .before .before .before .before .pre)
 
 returns : tie.Need-returns Inv-loop μ-loop
-returns c = c .before .before .before .before .loop .inv .1 ∙ other-here (now (c .before .before .before .before .before .args .fields)) (now (c .before .before .before .before .before .args .due)) (c .before .before .before .before .loop .i) (omega arith) (omega (arith, c .before .before .before .before .before .pre)) (c .if1 .taken)
+returns c = c .before .before .before .before .loop .inv .1 ∙ other-here (now (c .before .before .before .before .before .args .fields)) (now (c .before .before .before .before .before .args .due)) (c .before .before .before .before .loop .i) (omega arith) (omega (arith, c .before .before .before .before .before .pre)) (omega arith)
 
 loop-again : tie.Need-loop-again Inv-loop μ-loop
 loop-again c = (
   omega arith,
-  c .before .before .before .before .loop .inv .1 ∙ other-later (now (c .before .before .before .before .before .args .fields)) (now (c .before .before .before .before .before .args .due)) (c .before .before .before .before .loop .i) (omega arith) (omega (arith, c .before .before .before .before .before .pre)) (c .if1 .left),
+  c .before .before .before .before .loop .inv .1 ∙ other-later (now (c .before .before .before .before .before .args .fields)) (now (c .before .before .before .before .before .args .due)) (c .before .before .before .before .loop .i) (omega arith) (omega (arith, c .before .before .before .before .before .pre)) (omega arith),
 )
 
 returns-2 : tie.Need-returns-2 Inv-loop μ-loop
