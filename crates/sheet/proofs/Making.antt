@@ -95,11 +95,11 @@ module _ (s : List ℕ) (n : ℕ) (before : List ℕ) where
   unfolding exported
   exports-roomless h = record { answers = rw (lt-leb 65536 (length before) h); contents = rw (lt-leb 65536 (length before) h) }
 
-  module _ (h : 65536 ≤ length before) {run after : List ℕ} {a : Answer} (r : Read paper s n run a after) (g : 830 ≤ length run) where
-    into : exported paper s n (length before) ≡ checked paper s n
-    unfolding exported
-    into = rw (le-leb 65536 (length before) h)
+  into : 65536 ≤ length before → exported paper s n (length before) ≡ checked paper s n
+  unfolding exported
+  into h = rw (le-leb 65536 (length before) h)
 
+  module _ {run after : List ℕ} {a : Answer} (r : Read paper s n run a after) (g : 830 ≤ length run) where
     read-into : readInto paper s n (length run) ≡ checked paper s n
     unfolding readInto
     read-into = rw (le-leb 830 (length run) g)
@@ -107,10 +107,10 @@ module _ (s : List ℕ) (n : ℕ) (before : List ℕ) where
     read-answers : a ≡ answerOf (checked paper s n)
     read-answers = r .answers ∙ ap answerOf read-into
 
-    pub exports-refused : {x : Refusal} → a ≡ Refused x → Export paper s n before (reply.Refused x) before
-    exports-refused {x} q =
+    pub exports-refused : {x : Refusal} → a ≡ Refused x → 65536 ≤ length before → Export paper s n before (reply.Refused x) before
+    exports-refused {x} q h =
         let e = was-refused (λ es. length (values es)) (checked paper s n) a x read-answers q in
-        record { answers = rw (into, e); contents = rw (into, e) }
+        record { answers = rw (into h, e); contents = rw (into h, e) }
 
     module _ {count : ℕ} (q : a ≡ Accepted count) where
       accepted-as : AcceptedAs (λ es. length (values es)) (checked paper s n) count
@@ -130,12 +130,13 @@ module _ (s : List ℕ) (n : ℕ) (before : List ℕ) where
       pub few-read : count ≤ 830
       few-read = rw (accepted-as .counted) (few-values paper tel)
 
-      pub listing : Listing (take count after) before
-      listing = record { entries = es; telegram = tel; same = listed; room = h }
+      pub listing : 65536 ≤ length before → Listing (take count after) before
+      listing h = record { entries = es; telegram = tel; same = listed; room = h }
 
-      pub exports-written : {b : Reply} {final : List ℕ} → Wrote (take count after) before b final → Export paper s n before b final
-      exports-written {b} {final} w =
-          let e = into ∙ accepted-as .is in
+      pub exports-written : {b : Reply} {final : List ℕ} → 65536 ≤ length before → Wrote (take count after) before b final
+          → Export paper s n before b final
+      exports-written {b} {final} h w =
+          let e = into h ∙ accepted-as .is in
           record {
             answers = w .answers es tel listed ∙ ap lengthOf (sym e);
             contents = w .contents es tel listed ∙ ap (λ (x : Result). sheetOver x before) (sym e);

@@ -10,7 +10,7 @@ use Rattle.sheet.proofs.writing.export.Statement.{statement}
 use Rattle.sheet.proofs.writing.export.Tie as tie
 
 returns : tie.Need-returns
-returns c = exports-roomless _ _ _ (c .if1 .taken)
+returns c = exports-roomless _ _ _ (omega arith)
 
 slice-aggregate-read : tie.Need-slice-aggregate-read
 slice-aggregate-read c = search needs
@@ -26,7 +26,7 @@ few : (c : tie.After-known-told2) → c .before .count .given .0 .0 ≤ 830
 few c =
     let r = c .before .before .before .before in
     let a = r .before .before .before .before .before .args in
-    few-read (now (a .s)) (a .n) (now (a .text)) (r .before .before .if1 .left) (r .read .ensures) (omega arith) (c .before .count .given .1)
+    few-read (now (a .s)) (a .n) (now (a .text)) (r .read .ensures) (omega arith) (c .before .count .given .1)
 
 array-share-prefix-values : tie.Need-array-share-prefix-values
 array-share-prefix-values c = omega (arith, few (c))
@@ -35,16 +35,16 @@ slice-aggregate-sheet : tie.Need-slice-aggregate-sheet
 slice-aggregate-sheet c = sym (length-take-le _ _ (omega (arith, few (c .before))))
 
 sheet-requires : tie.Need-sheet-requires
-sheet-requires c κs = listing _ _ _ (c .before .before .before .before .before .before .before .before .if1 .left) (c .before .before .before .before .before .before .read .ensures) (omega arith) (c .before .before .before .count .given .1)
+sheet-requires c κs = listing _ _ _ (c .before .before .before .before .before .before .read .ensures) (omega arith) (c .before .before .before .count .given .1) (omega arith)
 
 returns-2 : tie.Need-returns-2
-returns-2 c = exports-refused _ _ _ (c .before .before .before .before .before .before .if1 .left) (c .before .before .before .before .read .ensures) (omega arith) (c .before .r .given .1)
+returns-2 c = exports-refused _ _ _ (c .before .before .before .before .read .ensures) (omega arith) (c .before .r .given .1) (omega arith)
 
 same-length : tie.Need-same-length
 same-length c = search needs
 
 returns-3 : tie.Need-returns-3
-returns-3 c = exports-written _ _ _ (c .before .before .before .before .before .before .before .before .before .before .before .if1 .left) (c .before .before .before .before .before .before .before .before .before .read .ensures) (omega arith) (c .before .before .before .before .before .before .count .given .1) (c .before .before .sheet .ensures)
+returns-3 c = exports-written _ _ _ (c .before .before .before .before .before .before .before .before .before .read .ensures) (omega arith) (c .before .before .before .before .before .before .count .given .1) (omega arith) (c .before .before .sheet .ensures)
 
 read-requires : tie.Need-read-requires
 read-requires c κs = search needs
