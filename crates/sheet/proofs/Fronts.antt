@@ -1,12 +1,13 @@
 -- A row at the front of a text, by the tests that the code makes. Assumes nothing.
 use mathlib.Core.Path.{_≡_, refl, sym, ap, _∙_}
-use mathlib.Core.Bool.{Bool, true, false, cond}
-use mathlib.Core.List.{List, [], _∷_}
+use mathlib.Core.Bool.{Bool, true, false, cond, _&&_}
+use mathlib.Core.List.{List, [], _∷_, _++_}
 use mathlib.Core.Option.{Option, some, none}
 use Prim.Native.Nat.{ℕ, suc, _+_, _≤_, _<_}
 use native.Mathlib.Numerals.{add-one}
 use native.Mathlib.Omega.{arith}
 use borrow.Author.Tests.{lt-ltb}
+use lib.Dec.{eqb}
 use lib.ListN.{length, drop, length-append, length-drop, drop-of-length-le}
 use lib.Seq.{drop-cons, drop-drop}
 use Rattle.pieces.specs.Pieces.{begins}
@@ -27,6 +28,18 @@ begins-fits piece text at e h =
     let l : length (drop at text) ≡ length piece + length (drop (length piece) (drop at text)) =
     ap length (begins-is piece (drop at text) e) ∙ length-append piece (drop (length piece) (drop at text)) in
     omega (arith, l, length-drop at text)
+
+-- a text that does not begin with a piece does not begin with a longer one
+pub begins-longer : (piece more text : List ℕ) → begins piece text ≡ false → begins (piece ++ more) text ≡ false
+unfolding begins
+begins-longer [] more text e = cc
+begins-longer (c ∷ piece) more [] e = refl
+begins-longer (c ∷ piece) more (d ∷ text) e = by (eqb c d) e (begins-longer piece more text)
+  where
+    by : (b : Bool) → (b && begins piece text) ≡ false → (begins piece text ≡ false → begins (piece ++ more) text ≡ false)
+        → (b && begins (piece ++ more) text) ≡ false
+    by true z ih = ih z
+    by false z ih = refl
 
 -- ---- which label
 

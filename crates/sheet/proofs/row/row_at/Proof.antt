@@ -11,7 +11,7 @@ use Rattle.pieces.specs.Numbers.{readAt}
 use Rattle.sheet.specs.Rows.{crlf, labelText, fieldOf}
 use Rattle.sheet.specs.Reading.{valueIn}
 use Rattle.sheet.proofs.Table.{Part, part}
-use Rattle.sheet.proofs.Fronts.{begins-fits, row-nameless, row-valueless, valued-at, row-open, row-whole}
+use Rattle.sheet.proofs.Fronts.{begins-fits, begins-longer, row-nameless, row-valueless, valued-at, row-open, row-whole}
 use Rattle.sheet.proofs.row.row_at.Statement.{statement}
 use Rattle.sheet.proofs.row.row_at.Tie as tie
 
@@ -76,19 +76,16 @@ returns-2 c =
     let e = c .before .before .before .before .before in
     sym (row-valueless _ _ _ (e .before .field-at .ensures) (known e) _ (value-is (c .before .before)) (c .enum-told .given .1))
 
+-- what lacks a front of CRLF lacks CRLF: the answer is right also where less is looked for
 returns-3 : tie.Need-returns-3
 returns-3 c =
     let e = c .before .before .before .before .before .before .before .before .before in
     let v = value-is (c .before .before .before .before .before .before) in
     sym
     (row-open _ _ _ (e .before .field-at .ensures) (known e) _ v (valued-at _ _ _ (e .before .field-at .ensures) (known e) _ v (c .before .before .before .before .v .given .1))
-    (sym (c .before .begins .ensures) ∙ not-true _ (c .if2 .taken)))
+    (begins-longer _ _ _ (sym (c .before .begins .ensures) ∙ not-true _ (c .if2 .taken))))
 
-add-t15 : tie.Need-add-t15
-add-t15 c =
-    let f = begins-fits crlf (now (c .before .before .before .before .before .before .before .before .before .before .before .before .before .before .args .text)) (c .before .before .before .before .v .given .0 .1 .0) (sym (c .before .begins .ensures) ∙ not-false _ (c .if2 .left)) (omega arith) in
-    omega (arith, f)
-
+-- here a row that ends in less than CRLF is refused
 returns-4 : tie.Need-returns-4
 returns-4 c =
     let e = c .before .before .before .before .before .before .before .before .before in
@@ -96,6 +93,11 @@ returns-4 c =
     sym
     (row-whole _ _ _ (e .before .field-at .ensures) (known e) _ v (valued-at _ _ _ (e .before .field-at .ensures) (known e) _ v (c .before .before .before .before .v .given .1))
     (sym (c .before .begins .ensures) ∙ not-false _ (c .if2 .left)))
+
+add-t15 : tie.Need-add-t15
+add-t15 c =
+    let f = begins-fits crlf (now (c .before .before .before .before .before .before .before .before .before .before .before .before .before .before .args .text)) (c .before .before .before .before .v .given .0 .1 .0) (sym (c .before .begins .ensures) ∙ not-false _ (c .if2 .left)) (omega arith) in
+    omega (arith, f)
 
 enum-known-v : tie.Need-enum-known-v
 enum-known-v c = omega arith
