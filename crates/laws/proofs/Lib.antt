@@ -19,5 +19,13 @@ pub mod Same
 pub mod LeftOut
 pub mod Demand3
 pub mod Metres
-pub mod Bounds
+pub mod Every
 pub mod Listed
+pub mod Points
+pub mod Headed
+pub mod Noted
+pub mod Standing
+pub mod Offending
+pub mod Pointed
+pub mod Shown
+pub mod Bounds

@@ -15,6 +15,11 @@ use Rattle.format.specs.Telegrams.Taken.{got, lacks}
 use Rattle.format.specs.Telegrams.Run.{last, more}
 use Rattle.laws.proofs.Sources.{Had, Source}
 
+-- the parts of entries, and then of others
+pub all-append : (part : Entry → List ℕ) (es fs : List Entry) → all part (es ++ fs) ≡ all part es ++ all part fs
+all-append part [] fs = refl
+all-append part (e ∷ es) fs = rw (all-append part es fs, append-assoc)
+
 -- the state in which the end mark is due
 unfoldable pub beforeMark : {p : Terms} {s : State} {es : List Entry} → Run p s es → State
 beforeMark (last {s = s} f e) = s

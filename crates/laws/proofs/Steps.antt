@@ -1,11 +1,10 @@
 -- What a step says of the value and of the items before and after it, whatever the rules were. Assumes nothing.
 use mathlib.Core.Bool.{Bool, true, false, cond, _||_}
 use mathlib.Core.Option.{Option, some, none}
-use mathlib.Core.Path.{_≡_, refl, ap}
+use mathlib.Core.Path.{_≡_, refl, subst}
 use Prim.Native.Nat.{ℕ}
-use native.Mathlib.Omega.{arith}
 use borrow.Author.Tests.{eqb-true}
-use lib.Dec.{eqb}
+use lib.Dec.{T, eqb}
 use Rattle.format.specs.Fields.{Rule}
 use Rattle.format.specs.Packets.{Items, find, etcs}
 use Rattle.format.specs.Packets.Items.{end, nest, send, sendIf, sendEither, sendTimes}
@@ -14,51 +13,68 @@ use Rattle.format.specs.Rules.Next.{go, over, breaks}
 use Rattle.format.specs.declared.Kind.{Kind}
 use Rattle.format.specs.declared.Kind.the-variants.{Length, Unknown}
 
--- ---- after a value that breaks no rule
+-- ---- the ways that a value can go
 
-verdict-go : (o : Option Kind) (n : Next) (t : Items) (c : Context) → verdict o n ≡ go t c → n ≡ go t c
-verdict-go none n t c h = h
-verdict-go (some k) n t c h = cc
+-- something is left to send
+abbrev pub going : Items → Bool
+going end = false
+going nest = true
+going (send f r) = true
+going (sendIf c f r) = true
+going (sendEither c a b) = true
+going (sendTimes c g r) = true
 
-verdict-over : (o : Option Kind) (n : Next) → verdict o n ≡ over → (o ≡ none) × (n ≡ over)
-verdict-over none n h = (refl, h)
-verdict-over (some k) n h = (cc, cc)
+-- and so they are not done
+pub going-on : {A : Type 0} (t : Items) → T (going t) → t ≡ end → A
+going-on t g e = absurd (subst (λ i. T (going i)) e g)
 
-closed-go : (b : Bool) (t t2 : Items) (c c2 : Context) → cond b (go t c) (breaks Length) ≡ go t2 c2 → t ≡ t2
-closed-go true t t2 c c2 h = cc
-closed-go false t t2 c c2 h = cc
+-- where the items that come next lead: on with them, or a packet ends here, and is as long as it says or not
+pub data Settled (at : ℕ) (t : Items) (c : Context) : Next → Type 0 where
+  on : T (going t) → Settled at t c (go t c)
+  closed : t ≡ end → Settled at t c (go end (fresh at c))
+  misfitted : t ≡ end → closes at c (c .level) ≡ false → Settled at t c (breaks Length)
 
-closed-over : (b : Bool) (t : Items) (c : Context) → cond b (go t c) (breaks Length) ≡ over → ⊥
-closed-over true t c h = let z : _≡_ {A = ℕ} 0 1 = cc in omega arith
-closed-over false t c h = let z : _≡_ {A = ℕ} 0 1 = cc in omega arith
+-- where a value leads: it is forbidden, or it is the end mark's, or it is noted and the items that come next lead on
+pub data Stepped (p : Terms) (s : State) (v : ℕ) : Next → Type 0 where
+  forbidden : {k : Kind} → broken p (s .context) (ruleOf (field s .sense)) v ≡ some k → Stepped p s v (breaks k)
+  marked : broken p (s .context) (ruleOf (field s .sense)) v ≡ none → next (s .todo) v ≡ none → Stepped p s v over
+  noticed : {t : Items} {n : Next} → broken p (s .context) (ruleOf (field s .sense)) v ≡ none → next (s .todo) v ≡ some t
+      → Settled (past s) t (noted (ruleOf (field s .sense)) (s .context) (s .at) v) n → Stepped p s v n
 
-settled-go : (at : ℕ) (t t2 : Items) (c c2 : Context) → settled at t c ≡ go t2 c2 → t ≡ t2
+-- a packet's end, by the test of its length
+closing : (at : ℕ) (t : Items) (c : Context) (b : Bool) → t ≡ end → closes at c (c .level) ≡ b
+    → Settled at t c (cond b (go end (fresh at c)) (breaks Length))
+closing at t c true i e = closed i
+closing at t c false i e = misfitted i e
+
+settles : (at : ℕ) (t : Items) (c : Context) → Settled at t c (settled at t c)
 unfolding settled
-settled-go at end t2 c c2 h = closed-go (closes at c (c .level)) end t2 (fresh at c) c2 h
-settled-go at nest t2 c c2 h = cc
-settled-go at (send f r) t2 c c2 h = cc
-settled-go at (sendIf s f r) t2 c c2 h = cc
-settled-go at (sendEither s a b) t2 c c2 h = cc
-settled-go at (sendTimes s g r) t2 c c2 h = cc
+settles at end c = closing at end c (closes at c (c .level)) refl refl
+settles at nest c = on tt
+settles at (send f r) c = on tt
+settles at (sendIf s f r) c = on tt
+settles at (sendEither s a b) c = on tt
+settles at (sendTimes s g r) c = on tt
 
-settled-over : (at : ℕ) (t : Items) (c : Context) → settled at t c ≡ over → ⊥
-unfolding settled
-settled-over at end c h = closed-over (closes at c (c .level)) end (fresh at c) h
-settled-over at nest c h = let z : _≡_ {A = ℕ} 0 1 = cc in omega arith
-settled-over at (send f r) c h = let z : _≡_ {A = ℕ} 0 1 = cc in omega arith
-settled-over at (sendIf s f r) c h = let z : _≡_ {A = ℕ} 0 1 = cc in omega arith
-settled-over at (sendEither s a b) c h = let z : _≡_ {A = ℕ} 0 1 = cc in omega arith
-settled-over at (sendTimes s g r) c h = let z : _≡_ {A = ℕ} 0 1 = cc in omega arith
+module _ (p : Terms) (s : State) (v : ℕ) where
+  abbrev rule : Rule
+  rule = ruleOf (field s .sense)
 
-onward-go : (at : ℕ) (o : Option Items) (t : Items) (c c2 : Context) → onward at o c ≡ go t c2 → o ≡ some t
-unfolding onward
-onward-go at none t c c2 h = cc
-onward-go at (some u) t c c2 h = ap some (settled-go at u t c c2 h)
+  abbrev after : Context
+  after = noted rule (s .context) (s .at) v
 
-onward-over : (at : ℕ) (o : Option Items) (c : Context) → onward at o c ≡ over → o ≡ none
-unfolding onward
-onward-over at none c h = refl
-onward-over at (some t) c h = absurd (settled-over at t c h)
+  allowed : (o : Option Items) → broken p (s .context) rule v ≡ none → next (s .todo) v ≡ o → Stepped p s v (onward (past s) o after)
+  unfolding onward
+  allowed none b e = marked b e
+  allowed (some t) b e = noticed b e (settles (past s) t after)
+
+  judged : (o : Option Kind) → broken p (s .context) rule v ≡ o → Stepped p s v (verdict o (onward (past s) (next (s .todo) v) after))
+  judged none b = allowed (next (s .todo) v) b refl
+  judged (some k) b = forbidden b
+
+  pub stepped : Stepped p s v (step p s v)
+  unfolding step
+  stepped = judged (broken p (s .context) rule v) refl
 
 -- ---- the end mark
 
@@ -68,35 +84,37 @@ unlisted none true n h = refl
 unlisted none false n h = cc
 unlisted (some t) b n h = cc
 
-marked : (p : Terms) (c : Context) (t : Items) (v : ℕ) → broken p c (ruleOf (due t .sense)) v ≡ none → next t v ≡ none
+mark-is : (p : Terms) (c : Context) (t : Items) (v : ℕ) → broken p c (ruleOf (due t .sense)) v ≡ none → next t v ≡ none
     → (t ≡ end) × (v ≡ 255)
 unfolding broken next
-marked p c end v b n = (refl, eqb-true v 255 (unlisted (find v etcs) (eqb v 255) n b))
-marked p c nest v b n = (cc, cc)
-marked p c (send f r) v b n = (cc, cc)
-marked p c (sendIf s f r) v b n = (cc, cc)
-marked p c (sendEither s a d) v b n = (cc, cc)
-marked p c (sendTimes s g r) v b n = (cc, cc)
+mark-is p c end v b n = (refl, eqb-true v 255 (unlisted (find v etcs) (eqb v 255) n b))
+mark-is p c nest v b n = (cc, cc)
+mark-is p c (send f r) v b n = (cc, cc)
+mark-is p c (sendIf s f r) v b n = (cc, cc)
+mark-is p c (sendEither s a d) v b n = (cc, cc)
+mark-is p c (sendTimes s g r) v b n = (cc, cc)
 
 -- ---- one step
 
 module _ (p : Terms) (s : State) (v : ℕ) where
-  abbrev rule : Rule
-  rule = ruleOf (field s .sense)
-
-  abbrev after : Context
-  after = noted rule (s .context) (s .at) v
-
   -- where it goes on, it goes on with the items that come next
   pub go-next : (t : Items) (c : Context) → step p s v ≡ go t c → next (s .todo) v ≡ some t
-  unfolding step
-  go-next t c h =
-      onward-go (past s) (next (s .todo) v) t after c
-      (verdict-go (broken p (s .context) rule v) (onward (past s) (next (s .todo) v) after) t c h)
+  go-next t c h = by-way (stepped p s v) h
+    where
+      by-way : {n : Next} → Stepped p s v n → n ≡ go t c → next (s .todo) v ≡ some t
+      by-way (forbidden b) i = cc
+      by-way (marked b e) i = cc
+      by-way (noticed b e (on g)) i = cc
+      by-way (noticed b e (closed j)) i = cc
+      by-way (noticed b e (misfitted j f)) i = cc
 
   -- where it is over, nothing was left to send, and the value is the end mark's
   pub over-mark : step p s v ≡ over → (s .todo ≡ end) × (v ≡ 255)
-  unfolding step
-  over-mark h =
-      let passed = verdict-over (broken p (s .context) rule v) (onward (past s) (next (s .todo) v) after) h in
-      marked p (s .context) (s .todo) v (passed .0) (onward-over (past s) (next (s .todo) v) after (passed .1))
+  over-mark h = by-way (stepped p s v) h
+    where
+      by-way : {n : Next} → Stepped p s v n → n ≡ over → (s .todo ≡ end) × (v ≡ 255)
+      by-way (forbidden b) i = (cc, cc)
+      by-way (marked b e) i = mark-is p (s .context) (s .todo) v b e
+      by-way (noticed b e (on g)) i = (cc, cc)
+      by-way (noticed b e (closed j)) i = (cc, cc)
+      by-way (noticed b e (misfitted j f)) i = (cc, cc)

@@ -45,7 +45,7 @@ divided-joined (e ∷ es) = by-test (begins e) (divided es) (divided-joined es)
     by-test true d h = ap (λ (l : List Entry). e ∷ l) h
     by-test false d h = ap (λ (l : List Entry). e ∷ l) h
 
-bitCount-append : (es fs : List Entry) → bitCount (es ++ fs) ≡ bitCount es + bitCount fs
+pub bitCount-append : (es fs : List Entry) → bitCount (es ++ fs) ≡ bitCount es + bitCount fs
 bitCount-append [] fs = omega arith
 bitCount-append (e ∷ es) fs = let h = bitCount-append es fs in omega arith
 
