@@ -43,6 +43,7 @@ pointing collides = record { placeOf = fieldPlace; collides = collides }
 
 -- ---- one field more
 
+-- it ends where the entries do, and they stand as before
 module _ (p : Terms) (es : List Entry) (s : State) (v : ℕ) (a : s .at ≡ bitCount es) where
   pub past-bits : past s ≡ bitCount (es ++ (entry s v ∷ []))
   past-bits = let w = width-named (s .todo) v in let b = bitCount-append es (entry s v ∷ []) in omega arith

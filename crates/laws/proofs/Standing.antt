@@ -35,6 +35,7 @@ pub data Begun (id : Field) (Rest Later : Items → Type 0) (es : List Entry) (s
       → Begun id Rest Later es start long (send L-PACKET r)
   sized : {t : Items} (h : Inside id es) → start ≡ bitCount (h .before) → long ≡ h .size → Later t → Begun id Rest Later es start long t
 
+-- one entry more, of another field
 without-append : (f : Field) (es : List Entry) (e : Entry) → Without f es → (e .field ≡ f → ⊥) → Without f (es ++ (e ∷ []))
 without-append f [] e w n = (n, tt)
 without-append f (x ∷ es) e w n = (w .0, without-append f es e (w .1) n)
@@ -72,6 +73,7 @@ measured {id} b n d v e =
 
 -- ---- where the entries stand
 
+-- a packet, and a CTCS packet
 abbrev pub Outer : List Entry → ℕ → ℕ → Items → Type 0
 Outer es start long t = Begun NID-PACKET (λ r. T (outerBody r)) Carried es start long t
 
@@ -139,6 +141,7 @@ module _ (p : Terms) (c : Context) (at v : ℕ) (u : Items) where
   listed none f b i = cc
   listed (some t) f b i = cc
 
+  -- in a packet; its CTCS packet begins where the entries end
   outer-next : {es : List Entry} {t : Items} → c .level ≡ inPacket → at ≡ bitCount es → T (going t) → Outer es (c .start) (c .long) t
       → broken p c (ruleOf (due t .sense)) v ≡ none → next t v ≡ some u
       → Leads (es ++ (holding (named t v) v ∷ [])) u c (noted (ruleOf (due t .sense)) c at v)
@@ -161,7 +164,8 @@ module _ (p : Terms) (c : Context) (at v : ℕ) (u : Items) where
       let hd = user-headed v u (listed (find v ctcs) refl i j) in
       rw (hd .is, user-noted c at v)
       (record {
-        amid = amid-user refl (longer h (holding NID-XUSER v) (apart NID-XUSER NID-PACKET refl)) x y (bitCount (h .after)) (a ∙ inside-bits h) (identified (h .after) v refl refl (hd .tested));
+        amid = amid-user refl (longer h (holding NID-XUSER v) (apart NID-XUSER NID-PACKET refl)) x y (bitCount (h .after)) (a ∙ inside-bits h)
+            (identified (h .after) v refl refl (hd .tested));
         still = λ k. going-on (send Q-DIR (send L-PACKET (hd .rest))) tt k;
       })
   outer-next l a g (sized {t = t} h x y (filled k)) i j =
@@ -172,6 +176,7 @@ module _ (p : Terms) (c : Context) (at v : ℕ) (u : Items) where
         still = λ z. still-same;
       })
 
+  -- in the CTCS packet; it never ends with its L_PACKET, so that at its end the context before knows it already
   inner-next : {es : List Entry} {t : Items} → c .level ≡ inUser → (o : Inside NID-PACKET es) → c .start ≡ bitCount (o .before)
       → c .long ≡ o .size → (k : ℕ) → c .userStart ≡ bodyAt o + k → T (going t) → Inner (o .after) k (c .userLong) t → next t v ≡ some u
       → Leads (es ++ (holding (named t v) v ∷ [])) u c (noted (ruleOf (due t .sense)) c at v)
@@ -201,6 +206,7 @@ module _ (p : Terms) (c : Context) (at v : ℕ) (u : Items) where
         still = λ i. still-same;
       })
 
+  -- from one packet to the next
   mark-apart : find v etcs ≡ some u → eqb v 255 ≡ false
   mark-apart e = ne-eqb v 255 (λ i. let z : _≡_ {A = ℕ} 0 1 = cc mark-unlisted in omega arith)
 
