@@ -15,7 +15,7 @@ use Rattle.bits.specs.Bits.{Below}
 use Rattle.bits.proofs.Bytes.{below-take}
 use Rattle.format.specs.Telegrams.{Entry, all, values, valuesIn}
 use Rattle.states.specs.Labels.{numbers, numbersIn}
-use Rattle.states.proofs.Driving.{all-append}
+use Rattle.laws.proofs.Round.{all-append}
 use Rattle.laws.proofs.Listed.{AllKnown}
 use Rattle.pieces.specs.Pieces.{Grown}
 use Rattle.sheet.specs.Rows.{rowText, entryOf}

@@ -1,7 +1,7 @@
 -- What a loop that drives the machine goes by, whatever its source: `Drives`, what holds where a field begins, kept by each turn, and
 -- the answer where the loop ends. Assumes nothing.
 use mathlib.Core.Path.{_≡_, refl, sym, ap, _∙_, subst}
-use mathlib.Core.List.{List, [], _∷_, _++_, append-assoc}
+use mathlib.Core.List.{List, [], _∷_, _++_}
 use Prim.Native.Nat.{ℕ, _+_, _*_, _≤_, _<_}
 use native.Mathlib.Omega.{arith}
 use lib.ListN.{length, length-append}
@@ -17,7 +17,9 @@ use Rattle.format.specs.declared.Kind.the-variants.{Ended, Trailing}
 use Rattle.format.specs.declared.Spot.{Spot}
 use Rattle.format.specs.declared.Spot.the-variants.{Due, Behind, Outer, Inner}
 use Rattle.laws.proofs.Sources.{Source, width-named}
+use Rattle.laws.proofs.Round.{all-append}
 use Rattle.laws.proofs.Steps.{over-mark}
+use Rattle.laws.proofs.Tile.{bitCount-append}
 use Rattle.laws.proofs.Turns.{pushes, pushes-ended, pushes-stopped, pushes-one, one-mark, one-broken, one-lacking, one-field-bounds}
 use Rattle.states.specs.Machine.{todoOf, contextOf, view, nextOf, earlierAfter, Sound, Beginning}
 use Rattle.states.specs.Seen.{Same, Passed, Noticed}
@@ -27,13 +29,9 @@ use Rattle.states.specs.declared.Outcome.the-variants.{Go, Over, Breaks}
 use Rattle.states.proofs.Moves.{due-right}
 use Rattle.format.specs.Rules as rules
 
--- ---- one entry more
+-- ---- the place of a refusal
 
-pub all-append : (part : Entry → List ℕ) (a b : List Entry) → all part (a ++ b) ≡ all part a ++ all part b
-all-append part [] b = refl
-all-append part (x ∷ a) b = rw (all-append part a b, append-assoc)
-
--- the place of a refusal does not go by the packets before
+-- it does not go by the packets before
 spot-same : (p : Spot) (st : State) (at end : ℕ) (l : List Earlier) → spotAt p at end (contextOf [] st) ≡ spotAt p at end (contextOf l st)
 unfolding spotAt
 spot-same Due st at end l = refl
@@ -50,13 +48,14 @@ same-place k st end l = spot-same (spotOf k end (contextOf [] st)) st (st .at) e
 pub starts-low : {st : State} → Sound st → st .at ≤ 830 → (st .start ≤ 65536) × (st .userstart ≤ 65536)
 starts-low s l = (omega (arith, s .first), omega (arith, s .second))
 
+-- ---- one entry more
+
 pub values-more : (es : List Entry) (e : Entry) → length (values (es ++ (e ∷ []))) ≡ length (values es) + 1
 unfolding valuesIn
 values-more es e = rw (all-append valuesIn es (e ∷ []), length-append (values es) (e .value ∷ []))
 
 pub bits-more : (es : List Entry) (e : Entry) → bitCount (es ++ (e ∷ [])) ≡ bitCount es + e .field .width
-bits-more [] e = omega arith
-bits-more (x ∷ es) e = let h = bits-more es e in omega arith
+bits-more es e = omega (arith, bitCount-append es (e ∷ []))
 
 module _ (source : rules.State → List ℕ → Taken) (part : Entry → List ℕ) (Good : rules.State → List ℕ → Type 0)
     (law : Source source part Good) where
