@@ -33,6 +33,7 @@ pub mod Checking
 pub mod Writing
 pub mod Normalising
 pub mod Answers
+pub mod Pointing
 pub mod Accepting
 pub mod Placing
 pub mod Once
