@@ -136,7 +136,7 @@ module _ (collides : Context → ℕ → Bool) (source : State → List ℕ → 
         (record { sent = es; state = s; left = xs; sends = sends; front = i; points = trailing e f })
     pointed-from es (refusals.later {s = s} {v = v} {xs = xs} {ys = ys} {t = t} {c = c} e f q) sends a h i g =
         let had = law .taken s v xs ys g e in
-        pointed-from (es ++ (entry s v ∷ [])) q (one-more v sends f) (past-bits p es s v a) (stands-on p es s v a t c h f)
+        pointed-from (es ++ (entry s v ∷ [])) q (one-more v sends (had .fits) f) (past-bits p es s v a) (stands-on p es s v a t c h f)
         (one-front part es (entry s v) ys (i ∙ ap (λ (l : List ℕ). all part es ++ l) (had .front))) (had .good t c)
 
 -- ---- reading and writing

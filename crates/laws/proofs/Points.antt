@@ -8,16 +8,16 @@ use Rattle.format.specs.Packets.{Items}
 use Rattle.format.specs.Rules.{State, Context, Terms, Level, begun, step, field, moved}
 use Rattle.format.specs.Rules.Level.{inHeader, inPacket, inUser}
 use Rattle.format.specs.Rules.Next.{go, over, breaks}
-use Rattle.format.specs.Telegrams.{Entry, entry, Taken, all, bitCount}
+use Rattle.format.specs.Telegrams.{Entry, entry, Taken, all, bitCount, Fits}
 use Rattle.format.specs.Telegrams.Taken.{got, lacks}
 use Rattle.format.specs.declared.Kind.{Kind}
 use Rattle.format.specs.declared.Kind.the-variants.{Header, Ended, Unknown, Value, Length, Direction, Repeated, Trailing, Wide, Full}
 use Rattle.format.specs.declared.Refusal.{Refusal}
 
--- the entries that lead from the beginning to a state, each breaking no rule
+-- the entries that lead from the beginning to a state, each fitting its field and breaking no rule
 pub data Sends (p : Terms) : List Entry → State → Type 0 where
   nothing : Sends p [] begun
-  one-more : {es : List Entry} {s : State} (v : ℕ) {t : Items} {c : Context} → Sends p es s → step p s v ≡ go t c
+  one-more : {es : List Entry} {s : State} (v : ℕ) {t : Items} {c : Context} → Sends p es s → Fits s v → step p s v ≡ go t c
       → Sends p (es ++ (entry s v ∷ [])) (moved s t c)
 
 -- ---- the packet in hand

@@ -73,7 +73,7 @@ wrong-among (outer o h f m) ys i = size-among o ys i
 sends-at : {p : Terms} {es : List Entry} {s : State} → Sends p es s → s .at ≡ bitCount es
 unfolding begun
 sends-at nothing = refl
-sends-at {p} (one-more {es = es} {s = s} v h e) = past-bits p es s v (sends-at h)
+sends-at {p} (one-more {es = es} {s = s} v h f e) = past-bits p es s v (sends-at h)
 
 few-left : (s : State) (bs : List ℕ) (k : Kind) → fromBits s bs ≡ lacks k → length bs < field s .width
 unfolding fromBits
