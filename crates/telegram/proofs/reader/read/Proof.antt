@@ -1,4 +1,5 @@
 -- `telegram::reader::read` meets its contract: room, then the check's answer; only what it accepted is stored. Assumes nothing.
+use native.Mathlib.Omega.{arith}
 use borrow.Author.Needs.{needs}
 use denote.Ref.{now}
 use Rattle.states.proofs.Checking.{reads-roomless, reads-refused, reads-accepted, fillable}
@@ -9,7 +10,7 @@ refuse-requires : tie.Need-refuse-requires
 refuse-requires c κs = search needs
 
 returns : tie.Need-returns
-returns c = let a = c .before .before .before .before .args in rw (c .refuse .ensures) (reads-roomless (now (a .s)) (a .n) (now (a .out)) (c .before .if1 .taken))
+returns c = let a = c .before .before .before .before .args in rw (c .refuse .ensures) (reads-roomless (now (a .s)) (a .n) (now (a .out)) (omega (arith, c .before .if1 .taken)))
 
 check-requires : tie.Need-check-requires
 check-requires c κs = search needs
