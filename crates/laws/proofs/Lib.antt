@@ -28,4 +28,5 @@ pub mod Standing
 pub mod Offending
 pub mod Pointed
 pub mod Shown
+pub mod OnePlace
 pub mod Bounds

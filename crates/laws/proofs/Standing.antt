@@ -111,7 +111,7 @@ inside-bits {id} h =
     ∙ omega arith
 
 -- fields of two numbers are two
-apart : (f g : Field) → eqb (f .number) (g .number) ≡ false → f ≡ g → ⊥
+pub apart : (f g : Field) → eqb (f .number) (g .number) ≡ false → f ≡ g → ⊥
 apart f g n e = eqb-false (f .number) (g .number) n (ap (λ (h : Field). h .number) e)
 
 -- no field of a body is an identifier
