@@ -45,7 +45,7 @@ pointing collides = record { placeOf = fieldPlace; collides = collides }
 
 -- it ends where the entries do, and they stand as before
 module _ (p : Terms) (es : List Entry) (s : State) (v : ℕ) (a : s .at ≡ bitCount es) where
-  pub past-bits : past s ≡ bitCount (es ++ (entry s v ∷ []))
+  past-bits : past s ≡ bitCount (es ++ (entry s v ∷ []))
   past-bits = let w = width-named (s .todo) v in let b = bitCount-append es (entry s v ∷ []) in omega arith
 
   stands-on : (t : Items) (c : Context) → Stands es s → step p s v ≡ go t c → Stands (es ++ (entry s v ∷ [])) (moved s t c)
@@ -68,6 +68,12 @@ module _ (p : Terms) (es : List Entry) (s : State) (v : ℕ) (a : s .at ≡ bitC
 pub one-front : {whole : List ℕ} (part : Entry → List ℕ) (es : List Entry) (e : Entry) (ys : List ℕ) → whole ≡ all part es ++ (part e ++ ys)
     → whole ≡ all part (es ++ (e ∷ [])) ++ ys
 one-front part es e ys i = rw (all-append part es (e ∷ []), append-nil (part e), append-assoc (all part es) (part e) ys) i
+
+-- a field is due where the entries that were sent end
+pub sends-at : {p : Terms} {es : List Entry} {s : State} → Sends p es s → s .at ≡ bitCount es
+unfolding begun
+sends-at nothing = refl
+sends-at {p} (one-more {es = es} {s = s} v h f e) = past-bits p es s v (sends-at h)
 
 -- ---- the place of each kind
 
@@ -124,19 +130,19 @@ module _ (collides : Context → ℕ → Bool) (source : State → List ℕ → 
           (sizing e (rw (← ek) at f) (subst₂ (λ l x. Wrong (es ++ (entry s v ∷ [])) l x) (sym (still .level)) (sym (still .place (s .at) (past s))) w))
 
   module _ (whole : List ℕ) where
-    pointed-from : {s : State} {xs : List ℕ} {r : Refusal} (es : List Entry) → Refused p source s xs r → Sends p es s → s .at ≡ bitCount es
-        → Stands es s → whole ≡ all part es ++ xs → Good s xs → Pointed p source part whole r
-    pointed-from es (refusals.lacking {s = s} {xs = xs} {k = k} e) sends a h i g =
+    pointed-from : {s : State} {xs : List ℕ} {r : Refusal} (es : List Entry) → Refused p source s xs r → Sends p es s → Stands es s
+        → whole ≡ all part es ++ xs → Good s xs → Pointed p source part whole r
+    pointed-from es (refusals.lacking {s = s} {xs = xs} {k = k} e) sends h i g =
         let m = missing s xs k e in
-        rw (missing-place s 0 m ∙ a) (record { sent = es; state = s; left = xs; sends = sends; front = i; points = lacking e m })
-    pointed-from es (refusals.breaking {s = s} {v = v} {xs = xs} {ys = ys} {k = k} e f) sends a h i g =
-        record { sent = es; state = s; left = xs; sends = sends; front = i; points = broken-points es s v xs ys k a h e f }
-    pointed-from es (refusals.trailing {s = s} {v = v} {xs = xs} e f) sends a h i g =
-        rw (trailing-place s 255 ∙ past-bits p es s v a)
+        rw (missing-place s 0 m ∙ sends-at sends) (record { sent = es; state = s; left = xs; sends = sends; front = i; points = lacking e m })
+    pointed-from es (refusals.breaking {s = s} {v = v} {xs = xs} {ys = ys} {k = k} e f) sends h i g =
+        record { sent = es; state = s; left = xs; sends = sends; front = i; points = broken-points es s v xs ys k (sends-at sends) h e f }
+    pointed-from es (refusals.trailing {s = s} {v = v} {xs = xs} e f) sends h i g =
+        rw (trailing-place s 255 ∙ past-bits p es s v (sends-at sends))
         (record { sent = es; state = s; left = xs; sends = sends; front = i; points = trailing e f })
-    pointed-from es (refusals.later {s = s} {v = v} {xs = xs} {ys = ys} {t = t} {c = c} e f q) sends a h i g =
+    pointed-from es (refusals.later {s = s} {v = v} {xs = xs} {ys = ys} {t = t} {c = c} e f q) sends h i g =
         let had = law .taken s v xs ys g e in
-        pointed-from (es ++ (entry s v ∷ [])) q (one-more v sends (had .fits) f) (past-bits p es s v a) (stands-on p es s v a t c h f)
+        pointed-from (es ++ (entry s v ∷ [])) q (one-more v sends (had .fits) f) (stands-on p es s v (sends-at sends) t c h f)
         (one-front part es (entry s v) ys (i ∙ ap (λ (l : List ℕ). all part es ++ l) (had .front))) (had .good t c)
 
 -- ---- reading and writing
@@ -170,13 +176,12 @@ module _ (collides : Context → ℕ → Bool) where
       → Pointed (pointing collides) fromBits bitsIn bs r
   unfolding begun
   read-pointed bs b n r e =
-      pointed-from collides fromBits bitsIn Sent from-bits bits-missing bs [] (read-decides (pointing collides) bs b n .refuses r .0 e) nothing refl
+      pointed-from collides fromBits bitsIn Sent from-bits bits-missing bs [] (read-decides (pointing collides) bs b n .refuses r .0 e) nothing
       begun-stands refl (record { bits = b; room = omega arith })
 
   -- and in writing
   pub write-pointed : (vs : List ℕ) (r : Refusal) → write (pointing collides) vs ≡ refused r
       → Pointed (pointing collides) fromValues valuesIn vs r
-  unfolding begun
   write-pointed vs r e =
       pointed-from collides fromValues valuesIn Listed from-values values-missing vs [] (write-decides (pointing collides) vs .refuses r .0 e) nothing
-      refl begun-stands refl tt
+      begun-stands refl tt

@@ -12,7 +12,7 @@ use Rattle.bits.specs.Bits.{Below}
 use Rattle.bits.proofs.Digits.{length-digits}
 use Rattle.bits.proofs.Bytes.{below-drop}
 use Rattle.format.specs.Fields.{Field, Q-DIR, L-PACKET}
-use Rattle.format.specs.Rules.{State, Terms, Level, begun, field}
+use Rattle.format.specs.Rules.{State, Terms, Level, field}
 use Rattle.format.specs.Telegrams.{Entry, entry, gotIf, fromBits, bitsIn, bits, bitCount}
 use Rattle.format.specs.Telegrams.Taken.{got, lacks}
 use Rattle.format.specs.declared.Kind.{Kind}
@@ -22,10 +22,9 @@ use Rattle.laws.proofs.Sources.{Sent, from-bits}
 use Rattle.laws.proofs.Round.{all-append}
 use Rattle.laws.proofs.Demand2.{length-bits}
 use Rattle.laws.proofs.Points.{Sends, holding, Inside, sizeAt, within, Wrong, wrongSize, Points, Pointed}
-use Rattle.laws.proofs.Points.Sends.{nothing, one-more}
 use Rattle.laws.proofs.Points.Wrong.{alone, inner, outer}
 use Rattle.laws.proofs.Points.Points.{lacking, breaking, sizing, trailing}
-use Rattle.laws.proofs.Pointed.{past-bits, one-front}
+use Rattle.laws.proofs.Pointed.{sends-at, one-front}
 
 -- the bits from a place on begin with those of an entry
 abbrev pub At : List ℕ → ℕ → Entry → Type 0
@@ -69,11 +68,6 @@ wrong-among (inner o h m) ys i = size-among (within o h) ys i
 wrong-among (outer o h f m) ys i = size-among o ys i
 
 -- ---- what is left
-
-sends-at : {p : Terms} {es : List Entry} {s : State} → Sends p es s → s .at ≡ bitCount es
-unfolding begun
-sends-at nothing = refl
-sends-at {p} (one-more {es = es} {s = s} v h f e) = past-bits p es s v (sends-at h)
 
 few-left : (s : State) (bs : List ℕ) (k : Kind) → fromBits s bs ≡ lacks k → length bs < field s .width
 unfolding fromBits
