@@ -29,4 +29,5 @@ pub mod Offending
 pub mod Pointed
 pub mod Shown
 pub mod OnePlace
+pub mod JustPointed
 pub mod Bounds

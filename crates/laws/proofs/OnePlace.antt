@@ -130,7 +130,7 @@ module _ {p : Terms} {source : State → List ℕ → Taken} where
 
 -- The way of a source to its refusal, from the state that the entries es lead to: `Sends` grows at its end, and two ways are compared
 -- from their beginning.
-data Stops (p : Terms) (source : State → List ℕ → Taken) (r : Refusal) : List Entry → State → List ℕ → Type 0 where
+pub data Stops (p : Terms) (source : State → List ℕ → Taken) (r : Refusal) : List Entry → State → List ℕ → Type 0 where
   here : {es : List Entry} {s : State} {xs : List ℕ} → Points p source es s xs r → Stops p source r es s xs
   later : {es : List Entry} {s : State} {v : ℕ} {xs ys : List ℕ} {t : Items} {c : Context} → source s xs ≡ got v ys → step p s v ≡ go t c
       → Stops p source r (es ++ (entry s v ∷ [])) (moved s t c) ys → Stops p source r es s xs
@@ -160,11 +160,11 @@ module _ (p : Terms) (source : State → List ℕ → Taken) (part : Entry → L
       (rw (all-append part es (entry s v ∷ []), append-nil (part (entry s v)), append-assoc (all part es) (part (entry s v)) xs) at i)
       (later (law .gives s v xs fits) e h)
 
-  stops : {r : Refusal} → Pointed p source part whole r → Stops p source r [] begun whole
-  stops h = from-begun (h .left) (h .sends) (h .front) (here (h .points))
+  pub pointed-stops : {r : Refusal} → Pointed p source part whole r → Stops p source r [] begun whole
+  pointed-stops h = from-begun (h .left) (h .sends) (h .front) (here (h .points))
 
   pub one-pointed : {r q : Refusal} → Pointed p source part whole r → Pointed p source part whole q → r ≡ q
-  one-pointed h k = one-stop (stops h) (stops k)
+  one-pointed h k = one-stop (pointed-stops h) (pointed-stops k)
 
 -- ---- reading and writing
 
