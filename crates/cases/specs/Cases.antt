@@ -118,7 +118,7 @@ unfoldable pub cases : List Claim
 cases =
     -- 1. The header and the end mark: 58 bits, 11 values
     reads (eight 0xC0) 58 (head ++ (255 ∷ [])) 11
-    -- 2. The same with C1 last; the same eight bytes with n = 59; n = 57
+    -- 2. The same with C1 last; the same eight bytes with n = 59 (document 02, 2: place 58); n = 57
     ∷ refuses (eight 0xC1) 58 3 0
     ∷ refuses (eight 0xC0) 59 11 58
     ∷ refuses (eight 0xC0) 57 2 0

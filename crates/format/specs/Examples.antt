@@ -6,7 +6,7 @@ use Prim.Native.String.{String}
 use Rattle.format.specs.Packets.{_⧺_, times, header, etcs, ctcs, find}
 use Rattle.format.specs.Refusals.{numberOf}
 use Rattle.format.specs.Rules.{begun, next, misdirected, broken, noted, closes, settled, onward, step, radioFrom, spotOf, spotAt, placeFrom, fieldPlace, among, sameAsEarlier, paper}
-use Rattle.format.specs.Telegrams.{Result, bits, values, names, places, bitCount, fromValues, drive, write}
+use Rattle.format.specs.Telegrams.{Result, names, places, bitCount, fromValues, drive, write}
 use Rattle.format.specs.Telegrams.Result.{accepted, refused}
 
 -- an answer in numbers: 0 and the bits of an accepted telegram, or the number and the place of a refusal

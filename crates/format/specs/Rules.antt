@@ -1,4 +1,5 @@
--- Document 01, "Refusal numbers" and "Allowed values": which field is due, which rule its value breaks, and what is due after it.
+-- Document 01, "Refusal numbers" and "Allowed values": which field is due, which rule its value breaks, and what is due after it; and
+-- document 02, 2: where a refusal points.
 -- Reading, writing and normalising all go by `step`. Definitions alone.
 use mathlib.Core.Bool.{Bool, true, false, cond, not, _&&_, _||_}
 use mathlib.Core.List.{List, [], _∷_}
@@ -223,8 +224,8 @@ byLevel inHeader a b c = a
 byLevel inPacket a b c = b
 byLevel inUser a b c = c
 
--- The L_PACKET that is wrong where a packet's last field ends at the bit past: the CTCS packet's, which is tested first, or else that of
--- the packet around it.
+-- The L_PACKET that is wrong where a packet's last field ends at the bit past: the packet's own; in a CTCS packet its own, which is tested
+-- first, or else that of the packet around it.
 abbrev pub misfit : ℕ → Context → Spot
 misfit past c = byLevel (c .level) Due Outer (cond (eqb (past - c .userStart) (c .userLong)) Outer Inner)
 

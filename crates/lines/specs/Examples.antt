@@ -9,11 +9,11 @@ use Rattle.pieces.specs.Numbers.{digitsOf}
 use Rattle.lines.specs.Lines.{answerTo, noTelegram}
 use Rattle.lines.specs.Text.{textOf}
 
--- `ok 58 11`, `refused 2 0` and `refused 11 50`
-texts : textOf 58 (Accepted 11) ∷ textOf 1 (Refused (record { kind = Size; place = 0 })) ∷ textOf 59 (Refused (record { kind = Trailing; place = 50 })) ∷ []
+-- `ok 58 11`, `refused 2 0` and `refused 11 58`
+texts : textOf 58 (Accepted 11) ∷ textOf 1 (Refused (record { kind = Size; place = 0 })) ∷ textOf 59 (Refused (record { kind = Trailing; place = 58 })) ∷ []
     ≡ (111 ∷ 107 ∷ 32 ∷ 53 ∷ 56 ∷ 32 ∷ 49 ∷ 49 ∷ 10 ∷ [])
     ∷ (114 ∷ 101 ∷ 102 ∷ 117 ∷ 115 ∷ 101 ∷ 100 ∷ 32 ∷ 50 ∷ 32 ∷ 48 ∷ 10 ∷ [])
-    ∷ (114 ∷ 101 ∷ 102 ∷ 117 ∷ 115 ∷ 101 ∷ 100 ∷ 32 ∷ 49 ∷ 49 ∷ 32 ∷ 53 ∷ 48 ∷ 10 ∷ [])
+    ∷ (114 ∷ 101 ∷ 102 ∷ 117 ∷ 115 ∷ 101 ∷ 100 ∷ 32 ∷ 49 ∷ 49 ∷ 32 ∷ 53 ∷ 56 ∷ 10 ∷ [])
     ∷ []
 unfolding digitsOf textOf
 texts = refl

@@ -12,5 +12,6 @@ pub mod Written
 pub mod Taken
 pub mod Back
 pub mod ThereAndBack
+pub mod Pointing
 pub mod Placing
 pub mod Once

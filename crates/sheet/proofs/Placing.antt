@@ -16,7 +16,7 @@ use Rattle.states.proofs.Placing.{p, q, same-left, tested-alike, check-alike}
 use Rattle.sheet.specs.Reading.{Rows, sheetIn}
 use Rattle.sheet.specs.Reading.Rows.{rows, bad}
 use Rattle.sheet.specs.Sheets.{numberOf, exported, lengthOf, sheetOver, Imported, judged, onSheet, imported, importInto, sizeOf, bytesOver}
-use Rattle.sheet.specs.Sheets.Imported.{taken, refusedBy, refusedAt}
+use Rattle.sheet.specs.Sheets.Imported.{refusedBy}
 use Rattle.format.specs.Refusals as refusals
 
 -- two replies have one number, and leave the same

@@ -13,9 +13,9 @@ use Rattle.sheet.specs.declared.Reply.the-variants.{Refused, Row}
 use Rattle.sheets.specs.Input.{Holds}
 use Rattle.sheets.specs.Printed.{newline, refusal, lineLength, told, outText, characters, inText}
 
--- rule 11 at bit 50, and row 17 of a sheet
-refusals : refusal (Refused (record { kind = Trailing; place = 50 })) ∷ refusal (Row 17) ∷ []
-    ≡ (textOf "refused 11 50" ++ newline) ∷ (textOf "refused 20 17" ++ newline) ∷ []
+-- rule 11 at bit 58, and row 17 of a sheet
+refusals : refusal (Refused (record { kind = Trailing; place = 58 })) ∷ refusal (Row 17) ∷ []
+    ≡ (textOf "refused 11 58" ++ newline) ∷ (textOf "refused 20 17" ++ newline) ∷ []
 unfolding refusal digitsOf
 refusals = refl
 

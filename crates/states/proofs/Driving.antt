@@ -8,7 +8,7 @@ use lib.ListN.{length, length-append}
 use Rattle.format.specs.Rules.{Earlier, begun, step, due, past, moved, among, paper, spotOf, spotAt, placeFrom, fieldPlace}
 use Rattle.format.specs.Rules.Next.{over, breaks}
 use Rattle.format.specs.Table.{fieldAt, words}
-use Rattle.format.specs.Telegrams.{Entry, entry, all, values, valuesIn, bitCount, Taken, Driven, Result, refusal, push, drive, whole}
+use Rattle.format.specs.Telegrams.{Entry, entry, values, valuesIn, bitCount, Taken, Driven, Result, refusal, push, drive, whole}
 use Rattle.format.specs.Telegrams.Taken.{got, lacks}
 use Rattle.format.specs.Telegrams.Driven.{ended, stopped}
 use Rattle.format.specs.Telegrams.Result.{accepted, refused}

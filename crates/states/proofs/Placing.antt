@@ -5,11 +5,11 @@ use mathlib.Core.List.{List}
 use mathlib.Core.Path.{_≡_, refl, ap}
 use Prim.Native.Nat.{ℕ}
 use lib.Dec.{leb}
-use lib.ListN.{length, take}
+use lib.ListN.{take}
 use Rattle.bits.specs.Bits.{bitsOf}
 use Rattle.format.specs.Refusals.{numberOf}
 use Rattle.format.specs.Rules.{State, Context, Terms}
-use Rattle.format.specs.Telegrams.{Result, read, write}
+use Rattle.format.specs.Telegrams.{Result}
 use Rattle.format.specs.Telegrams.Result.{accepted, refused}
 use Rattle.format.specs.declared.Kind.{Kind}
 use Rattle.format.specs.declared.Kind.the-variants.{Room, Size, Padding}

@@ -1,8 +1,8 @@
--- What the refusals of check, reader, writer and normaliser point at: the field that could not be finished, whose value breaks the rule, or
--- whose L_PACKET is wrong, or what follows the end mark, over the entries before it. For any collision rule. Assumes nothing.
+-- What the refusals of check, reader, writer, label and normaliser point at, over the entries before it: the field that could not be finished,
+-- the field whose value breaks the rule, the L_PACKET that is wrong, or what follows the end mark. For any collision rule. Assumes nothing.
 use mathlib.Core.Bool.{Bool, true, false, cond}
 use mathlib.Core.List.{List}
-use mathlib.Core.Path.{_≡_}
+use mathlib.Core.Path.{_≡_, refl}
 use Prim.Native.Nat.{ℕ, _<_, _≤_}
 use native.Mathlib.Omega.{arith}
 use lib.Dec.{leb}
@@ -11,24 +11,28 @@ use lib.Seq.{length-take-le}
 use Rattle.bits.specs.Bits.{Below, bitsOf}
 use Rattle.bits.proofs.Bytes.{below-bitsOf, below-take, length-bitsOf}
 use Rattle.format.specs.Refusals.{numberOf}
-use Rattle.format.specs.Rules.{Context}
+use Rattle.format.specs.Rules.{Context, paper, sameAsEarlier}
 use Rattle.format.specs.Telegrams.{Result, fromBits, fromValues, bitsIn, valuesIn, write}
 use Rattle.format.specs.Telegrams.Result.{accepted, refused}
-use Rattle.format.specs.declared.Kind.{Kind}
 use Rattle.format.specs.declared.Kind.the-variants.{Room}
 use Rattle.format.specs.declared.Refusal.{Refusal}
 use Rattle.laws.proofs.Points.{Pointed}
 use Rattle.laws.proofs.Pointed.{pointing, read-pointed, write-pointed}
 use Rattle.laws.proofs.Refused.{read-decides}
 use Rattle.laws.proofs.Shown.{Shown, read-shown}
+use Rattle.states.specs.Labels.{labelInto}
 use Rattle.states.specs.Normaliser.{normalOf, normaliseInto}
 use Rattle.states.specs.Reader.{sized, atOnce, checked, readInto}
 use Rattle.states.specs.Writer.{writeInto}
 use Rattle.states.proofs.Answers.{sized-is, field-given}
 
+-- the terms that hold are some of these
+pub paper-points : pointing sameAsEarlier ≡ paper
+paper-points = refl
+
 -- ---- a refusal from 4 on does not come of the room that is lent
 
-room-passed : (test : Bool) (a : Result) (r : Refusal) → 3 < numberOf (r .kind) → cond test a (atOnce Room) ≡ refused r → a ≡ refused r
+pub room-passed : (test : Bool) (a : Result) (r : Refusal) → 3 < numberOf (r .kind) → cond test a (atOnce Room) ≡ refused r → a ≡ refused r
 room-passed true a r l e = e
 room-passed false a r l e = let i : record { kind = Room; place = 0 } ≡ r = cc in absurd (by-kind r i l)
   where
@@ -83,3 +87,8 @@ module _ (collides : Context → ℕ → Bool) (r : Refusal) (late : 3 < numberO
       → Pointed (pointing collides) fromValues valuesIn vs r
   unfolding writeInto
   writer-pointed vs room e = write-pointed collides vs r (room-passed (leb 104 room) (write (pointing collides) vs) r late e)
+
+  pub label-pointed : (vs : List ℕ) (room : ℕ) → labelInto (pointing collides) vs room ≡ refused r
+      → Pointed (pointing collides) fromValues valuesIn vs r
+  unfolding labelInto
+  label-pointed vs room e = write-pointed collides vs r (room-passed (leb 830 room) (write (pointing collides) vs) r late e)

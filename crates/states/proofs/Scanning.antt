@@ -17,7 +17,7 @@ use Rattle.bits.specs.declared.Taken.the-variants.{Field, Short}
 use Rattle.bits.proofs.Bytes.{length-bitsOf, below-bitsOf, below-take}
 use Rattle.bits.proofs.Fields.{IsField, taken, take-whole}
 use Rattle.format.specs.Rules.{Earlier, begun, closes, paper, spotOf, spotAt, placeFrom, fieldPlace}
-use Rattle.format.specs.Table.{act, fieldAt, codeOf, words}
+use Rattle.format.specs.Table.{act, fieldAt, words}
 use Rattle.format.specs.Telegrams.{bitsIn, fromBits, whole, read}
 use Rattle.format.specs.Telegrams.Taken.{got, lacks}
 use Rattle.format.specs.Telegrams.Result.{refused}

@@ -3,7 +3,7 @@
 ghost use mathlib.Core.Path.{_≡_};
 ghost use mathlib.Core.List.{List};
 ghost use Prim.Native.Nat.{_-_};
-ghost use Rattle.format.specs.Rules.{Earlier, misfit, spotOf};
+ghost use Rattle.format.specs.Rules.{Earlier, spotOf};
 ghost use Rattle.format.specs.Rules as rules;
 ghost use Rattle.states.specs.Machine.{Noted, contextOf, levelOf};
 use crate::Level;
@@ -145,7 +145,7 @@ pub fn spot(kind: Kind, s: State, end: usize) -> Spot
 
 // The L_PACKET that is wrong where a packet ends at the bit end, the inner one tested first.
 fn misfit(s: State, end: usize) -> Spot
-    ensures { λ r. ⌜ ((l : List Earlier) → r ≡ misfit end (contextOf l s)) ⌝ }
+    ensures { λ r. ⌜ ((l : List Earlier) → r ≡ rules.misfit end (contextOf l s)) ⌝ }
 {
     let l = s.level;
     match l {

@@ -1,4 +1,4 @@
-// Refusals as answers.
+// Refusals as answers, with their places.
 ghost use mathlib.Core.Path.{_≡_};
 ghost use mathlib.Core.List.{List};
 ghost use Prim.Native.Nat.{_≤_};
@@ -18,7 +18,7 @@ pub(crate) fn refuse(kind: Kind, place: usize) -> Answer
     Answer::Refused(Refusal { kind, place })
 }
 
-// The refusal that is found at the field that is due, which ends at the bit end.
+// The refusal that is found at the field that is due, which ends at the bit end; 5 does not look at where it ends.
 pub(crate) fn refused(kind: Kind, s: State, end: usize) -> Answer
     requires { ⌜ (s .start ≤ 65536) × (s .userstart ≤ 65536) ⌝ }
     ensures { λ r. ⌜ ((l : List Earlier) → r ≡ Refused (record { kind = kind; place = placeFrom kind (s .at) end (contextOf l s) })) ⌝ }
