@@ -48,9 +48,13 @@ module _ {A : Type 0} (f : ℕ → A → Bool) (d : A) where
   pub each : (xs : List A) → T (every f 0 xs) → (k : ℕ) → k < length xs → T (f k (getD xs k d))
   each xs t k h = subst (λ (m : ℕ). T (f m (getD xs k d))) (zero-add k) (from xs 0 t k h)
 
+row-count : length rows ≡ 213
+unfolding rows
+row-count = refl
+
 pub row-law : (f : ℕ → Row → Bool) → T (every f 0 rows) → (k : ℕ) → k < 213 → T (f k (rowAt k))
 unfolding rowAt
-row-law f t k h = each f (row 0 NID-PACKET 0 0) rows t k h
+row-law f t k h = each f (row 0 NID-PACKET 0 0) rows t k (rw row-count h)
 
 -- what holds of the rows of one act
 act-law : (a : ℕ) (g h : ℕ → ℕ) → T (every (λ k r. imp (eqb (r .act) a) (eqb (g k) (h k))) 0 rows)

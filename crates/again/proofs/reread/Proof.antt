@@ -28,19 +28,6 @@ returns c =
 bytes-for-requires : tie.Need-bytes-for-requires
 bytes-for-requires c κs = search needs
 
-slice-reshare-prefix-read : tie.Need-slice-reshare-prefix-read
-slice-reshare-prefix-read c =
-    let a = c .before .before .before .before .before .before .before .before .before .before .before .args in
-    rw (c .bytes-for .ensures)
-    (lent-bytes paper (now (a .values)) (now (a .out)) (now (a .run)) _ (c .before .before .before .before .before .before .write .ensures) (c .before .before .a .given .1))
-
-slice-aggregate-read : tie.Need-slice-aggregate-read
-slice-aggregate-read c =
-    let a = c .before .before .before .before .before .before .before .before .before .before .before .before .args in
-    sym (length-take-le _ _
-    (rw (c .before .bytes-for .ensures)
-    (lent-bytes paper (now (a .values)) (now (a .out)) (now (a .run)) _ (c .before .before .before .before .before .before .before .write .ensures) (c .before .before .before .a .given .1))))
-
 read-requires : tie.Need-read-requires
 read-requires c κs = search needs
 
@@ -56,6 +43,21 @@ returns-2 c =
     rereads paper (now (a .values)) (now (a .out)) (now (a .run)) _ (c .before .before .before .before .before .before .before .before .before .before .before .write .ensures) (c .before .before .before .before .before .before .before .a .given .1)
     (c .before .before .before .before .before .bytes-for .ensures)
     (c .before .before .read .ensures)
+
+-- that the parts that are lent lie inside what they are parts of; below the answers, so that an edit of a part is refused at an answer
+
+slice-reshare-prefix-read : tie.Need-slice-reshare-prefix-read
+slice-reshare-prefix-read c =
+    let a = c .before .before .before .before .before .before .before .before .before .before .before .args in
+    rw (c .bytes-for .ensures)
+    (lent-bytes paper (now (a .values)) (now (a .out)) (now (a .run)) _ (c .before .before .before .before .before .before .write .ensures) (c .before .before .a .given .1))
+
+slice-aggregate-read : tie.Need-slice-aggregate-read
+slice-aggregate-read c =
+    let a = c .before .before .before .before .before .before .before .before .before .before .before .before .args in
+    sym (length-take-le _ _
+    (rw (c .before .bytes-for .ensures)
+    (lent-bytes paper (now (a .values)) (now (a .out)) (now (a .run)) _ (c .before .before .before .before .before .before .before .write .ensures) (c .before .before .before .a .given .1))))
 
 pub reread-spec : {M : Type 1} → statement M
 reread-spec =

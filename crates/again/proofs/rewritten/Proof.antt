@@ -26,16 +26,6 @@ returns c =
     let a = c .before .before .before .before .before .before .before .before .before .args in
     read-refused paper (now (a .s)) (a .n) (now (a .run)) (now (a .out)) _ (c .before .before .before .before .read .ensures) (c .enum-told .given .1)
 
-slice-reshare-prefix-write : tie.Need-slice-reshare-prefix-write
-slice-reshare-prefix-write c =
-    let a = c .before .before .before .before .before .before .before .before .before .before .args in
-    lent paper (now (a .s)) (a .n) (now (a .run)) (now (a .out)) _ (c .before .before .before .before .before .read .ensures) (c .before .a .given .1)
-
-slice-aggregate-write : tie.Need-slice-aggregate-write
-slice-aggregate-write c =
-    let a = c .before .before .before .before .before .before .before .before .before .before .before .args in
-    sym (length-take-le _ _ (lent paper (now (a .s)) (a .n) (now (a .run)) (now (a .out)) _ (c .before .before .before .before .before .before .read .ensures) (c .before .before .a .given .1)))
-
 write-requires : tie.Need-write-requires
 write-requires c κs = search needs
 
@@ -51,6 +41,18 @@ returns-2 c =
     rewrites paper (now (a .s)) (a .n) (now (a .run)) (now (a .out)) _ (c .before .before .before .before .before .before .before .before .before .before .read .ensures) (c .before .before .before .before .before .before .a .given .1)
     (below-known 256 (now (a .s)) (λ i. c .before .before .before .before .before .before .before .before .before .before .before .before .before .before .shared-slice-known .given i .fits))
     (c .before .before .write .ensures)
+
+-- that the parts that are lent lie inside what they are parts of; below the answers, so that an edit of a part is refused at an answer
+
+slice-reshare-prefix-write : tie.Need-slice-reshare-prefix-write
+slice-reshare-prefix-write c =
+    let a = c .before .before .before .before .before .before .before .before .before .before .args in
+    lent paper (now (a .s)) (a .n) (now (a .run)) (now (a .out)) _ (c .before .before .before .before .before .read .ensures) (c .before .a .given .1)
+
+slice-aggregate-write : tie.Need-slice-aggregate-write
+slice-aggregate-write c =
+    let a = c .before .before .before .before .before .before .before .before .before .before .before .args in
+    sym (length-take-le _ _ (lent paper (now (a .s)) (a .n) (now (a .run)) (now (a .out)) _ (c .before .before .before .before .before .before .read .ensures) (c .before .before .a .given .1)))
 
 pub rewritten-spec : {M : Type 1} → statement M
 rewritten-spec =

@@ -14,7 +14,7 @@ check-requires c κs = search needs
 code-requires : tie.Need-code-requires
 code-requires c κs =
     let a = c .before .before .args in
-    subst Placed (sym (c .check .ensures)) (check-placed (now (a .bytes)) (a .n))
+    subst Placed (sym (c .check .ensures)) (check-placed (now (a .bytes)) _)
 
 returns : tie.Need-returns
 returns c = c .code .ensures ∙ ap codeOf (c .before .check .ensures)

@@ -15,7 +15,7 @@ normalise-requires c κs = search needs
 code-requires : tie.Need-code-requires
 code-requires c κs =
     let a = c .before .before .before .before .before .before .args in
-    subst Placed (sym (c .before .before .normalise .ensures .answers)) (normalise-placed (now (a .bytes)) (a .n) (length (now (a .out))))
+    subst Placed (sym (c .before .before .normalise .ensures .answers)) (normalise-placed (now (a .bytes)) _ (length (now (a .out))))
 
 same-length : tie.Need-same-length
 same-length c = search needs

@@ -28,20 +28,6 @@ returns c =
 bytes-for-requires : tie.Need-bytes-for-requires
 bytes-for-requires c κs = search needs
 
-slice-reshare-prefix-normalise : tie.Need-slice-reshare-prefix-normalise
-slice-reshare-prefix-normalise c =
-    let a = c .before .before .before .before .before .before .before .before .before .before .before .args in
-    let h = c .before .before .before .before .before .before .normalise .ensures in
-    let e = c .before .before .a .given .1 in
-    rw (c .bytes-for .ensures, formed paper (now (a .s)) (a .n) (now (a .x)) _ h e .answered) (lent-form paper (now (a .s)) (a .n) (now (a .x)) _ h e)
-
-slice-aggregate-normalise : tie.Need-slice-aggregate-normalise
-slice-aggregate-normalise c =
-    let a = c .before .before .before .before .before .before .before .before .before .before .before .before .args in
-    let h = c .before .before .before .before .before .before .before .normalise .ensures in
-    let e = c .before .before .before .a .given .1 in
-    sym (length-take-le _ _ (rw (c .before .bytes-for .ensures, formed paper (now (a .s)) (a .n) (now (a .x)) _ h e .answered) (lent-form paper (now (a .s)) (a .n) (now (a .x)) _ h e)))
-
 normalise-requires-2 : tie.Need-normalise-requires-2
 normalise-requires-2 c κs = search needs
 
@@ -57,6 +43,22 @@ returns-2 c =
     renormalises paper (now (a .s)) (a .n) (now (a .x)) (now (a .y)) _ (c .before .before .before .before .before .before .before .before .before .before .before .normalise .ensures) (c .before .before .before .before .before .before .before .a .given .1)
     (c .before .before .before .before .before .bytes-for .ensures)
     (c .before .before .normalise2 .ensures)
+
+-- that the parts that are lent lie inside what they are parts of; below the answers, so that an edit of a part is refused at an answer
+
+slice-reshare-prefix-normalise : tie.Need-slice-reshare-prefix-normalise
+slice-reshare-prefix-normalise c =
+    let a = c .before .before .before .before .before .before .before .before .before .before .before .args in
+    let h = c .before .before .before .before .before .before .normalise .ensures in
+    let e = c .before .before .a .given .1 in
+    rw (c .bytes-for .ensures, formed paper (now (a .s)) (a .n) (now (a .x)) _ h e .answered) (lent-form paper (now (a .s)) (a .n) (now (a .x)) _ h e)
+
+slice-aggregate-normalise : tie.Need-slice-aggregate-normalise
+slice-aggregate-normalise c =
+    let a = c .before .before .before .before .before .before .before .before .before .before .before .before .args in
+    let h = c .before .before .before .before .before .before .before .normalise .ensures in
+    let e = c .before .before .before .a .given .1 in
+    sym (length-take-le _ _ (rw (c .before .bytes-for .ensures, formed paper (now (a .s)) (a .n) (now (a .x)) _ h e .answered) (lent-form paper (now (a .s)) (a .n) (now (a .x)) _ h e)))
 
 pub renormalised-spec : {M : Type 1} → statement M
 renormalised-spec =

@@ -62,26 +62,6 @@ returns-3 c =
 bytes-for-requires : tie.Need-bytes-for-requires
 bytes-for-requires c κs = search needs
 
-slice-reshare-prefix-same : tie.Need-slice-reshare-prefix-same
-slice-reshare-prefix-same c =
-    let a = c .before .before .before .before .before .before .before .before .before .before .before .before .before .before .before .before .before .before .args in
-    rw (c .bytes-for .ensures) (lent-form paper (now (a .s)) (a .n) (now (a .x)) _ (c .before .before .before .before .before .before .before .before .before .before .before .before .normalise .ensures) (c .before .before .before .before .before .before .before .before .enum-told .given .1))
-
-slice-aggregate-same : tie.Need-slice-aggregate-same
-slice-aggregate-same c =
-    let a = c .before .before .before .before .before .before .before .before .before .before .before .before .before .before .before .before .before .before .before .args in
-    sym (length-take-le _ _ (rw (c .before .bytes-for .ensures) (lent-form paper (now (a .s)) (a .n) (now (a .x)) _ (c .before .before .before .before .before .before .before .before .before .before .before .before .before .normalise .ensures) (c .before .before .before .before .before .before .before .before .before .enum-told .given .1))))
-
-slice-reshare-prefix-same-2 : tie.Need-slice-reshare-prefix-same-2
-slice-reshare-prefix-same-2 c =
-    let a = c .before .before .before .before .before .before .before .before .before .before .before .before .before .before .before .before .before .before .before .args in
-    rw (c .before .bytes-for .ensures) (rw (c .before .before .if1 .left) (lent-form paper (now (a .t)) (a .m) (now (a .y)) _ (c .before .before .before .before .before .before .before .normalise2 .ensures) (c .before .before .before .enum-told2 .given .1)))
-
-slice-aggregate-same-2 : tie.Need-slice-aggregate-same-2
-slice-aggregate-same-2 c =
-    let a = c .before .before .before .before .before .before .before .before .before .before .before .before .before .before .before .before .before .before .before .before .args in
-    sym (length-take-le _ _ (rw (c .before .before .bytes-for .ensures) (rw (c .before .before .before .if1 .left) (lent-form paper (now (a .t)) (a .m) (now (a .y)) _ (c .before .before .before .before .before .before .before .before .normalise2 .ensures) (c .before .before .before .before .enum-told2 .given .1)))))
-
 same-requires : tie.Need-same-requires
 same-requires c κs = search needs
 
@@ -112,6 +92,28 @@ returns-5 c =
     (c .before .before .before .before .before .if1 .left)
     (c .before .before .before .before .bytes-for .ensures)
     (λ q. unlike (c .before .same .ensures .1 q) (c .if2 .left))
+
+-- that the parts that are lent lie inside what they are parts of; below the answers, so that an edit of a part is refused at an answer
+
+slice-reshare-prefix-same : tie.Need-slice-reshare-prefix-same
+slice-reshare-prefix-same c =
+    let a = c .before .before .before .before .before .before .before .before .before .before .before .before .before .before .before .before .before .before .args in
+    rw (c .bytes-for .ensures) (lent-form paper (now (a .s)) (a .n) (now (a .x)) _ (c .before .before .before .before .before .before .before .before .before .before .before .before .normalise .ensures) (c .before .before .before .before .before .before .before .before .enum-told .given .1))
+
+slice-aggregate-same : tie.Need-slice-aggregate-same
+slice-aggregate-same c =
+    let a = c .before .before .before .before .before .before .before .before .before .before .before .before .before .before .before .before .before .before .before .args in
+    sym (length-take-le _ _ (rw (c .before .bytes-for .ensures) (lent-form paper (now (a .s)) (a .n) (now (a .x)) _ (c .before .before .before .before .before .before .before .before .before .before .before .before .before .normalise .ensures) (c .before .before .before .before .before .before .before .before .before .enum-told .given .1))))
+
+slice-reshare-prefix-same-2 : tie.Need-slice-reshare-prefix-same-2
+slice-reshare-prefix-same-2 c =
+    let a = c .before .before .before .before .before .before .before .before .before .before .before .before .before .before .before .before .before .before .before .args in
+    rw (c .before .bytes-for .ensures) (rw (c .before .before .if1 .left) (lent-form paper (now (a .t)) (a .m) (now (a .y)) _ (c .before .before .before .before .before .before .before .normalise2 .ensures) (c .before .before .before .enum-told2 .given .1)))
+
+slice-aggregate-same-2 : tie.Need-slice-aggregate-same-2
+slice-aggregate-same-2 c =
+    let a = c .before .before .before .before .before .before .before .before .before .before .before .before .before .before .before .before .before .before .before .before .args in
+    sym (length-take-le _ _ (rw (c .before .before .bytes-for .ensures) (rw (c .before .before .before .if1 .left) (lent-form paper (now (a .t)) (a .m) (now (a .y)) _ (c .before .before .before .before .before .before .before .before .normalise2 .ensures) (c .before .before .before .before .enum-told2 .given .1)))))
 
 pub says-same-spec : {M : Type 1} → statement M
 says-same-spec =

@@ -54,14 +54,6 @@ advance-requires c κs =
 enum-told : tie.Need-enum-told Inv-loop μ-loop
 enum-told c = search needs
 
-same-length : tie.Need-same-length Inv-loop μ-loop
-same-length c =
-    let p = c .before .before .before .before .before .before in
-    let b = p .before .before .before in
-    let out = b .before .before .before .before .before .before .args .out .now in
-    let g = b .before .before .loop .inv in
-    same-size (g .laid) (g .valued .onward) (b .width .ensures) (value-is (g .valued)) (p .put .ensures) out refl
-
 returns : tie.Need-returns Inv-loop μ-loop
 returns c =
     let p = c .before .before .before .before .before .before in
@@ -92,6 +84,15 @@ loop-again c =
     let p = c .before .before .before .before .before .before .before in
     let b = p .before .before .before in
     lays-on (b .before .before .loop .inv) (b .width .ensures) (p .put .ensures) (c .before .before .before .advance .ensures) (c .before .u .given .1)
+
+-- below what is stored, so that an edit of the put is refused there
+same-length : tie.Need-same-length Inv-loop μ-loop
+same-length c =
+    let p = c .before .before .before .before .before .before in
+    let b = p .before .before .before in
+    let out = b .before .before .before .before .before .before .args .out .now in
+    let g = b .before .before .loop .inv in
+    same-size (g .laid) (g .valued .onward) (b .width .ensures) (value-is (g .valued)) (p .put .ensures) out refl
 
 pub store-spec : {M : Type 1} → statement M
 store-spec =
