@@ -245,6 +245,7 @@ spotAt Inner at past c = c .userStart + (NID-XUSER .width + Q-DIR .width)
 unfoldable pub placeFrom : Kind → ℕ → ℕ → Context → ℕ
 placeFrom k at past c = spotAt (spotOf k past c) at past c
 
+-- found at the field that is due. Its context has the L_PACKET of a CTCS packet, behind which every table has a field.
 unfoldable pub fieldPlace : Kind → State → ℕ → ℕ
 fieldPlace k s v = placeFrom k (s .at) (past s) (s .context)
 

@@ -1,17 +1,13 @@
 -- No wrong place can be pointed at: of one source, `Pointed` holds for one refusal alone, with its kind and its place. Assumes nothing.
-use mathlib.Core.Bool.{Bool}
 use mathlib.Core.List.{List, [], _∷_, _++_, append-assoc, append-nil}
 use mathlib.Core.Path.{_≡_, refl, sym, ap, _∙_}
-use Prim.Native.Nat.{ℕ, _≤_}
+use Prim.Native.Nat.{ℕ}
 use native.Mathlib.Omega.{arith}
-use lib.ListN.{length}
-use Rattle.bits.specs.Bits.{Below}
 use Rattle.format.specs.Fields.{Field, NID-PACKET, NID-XUSER, Q-DIR, L-PACKET}
 use Rattle.format.specs.Packets.{Items}
 use Rattle.format.specs.Rules.{State, Context, Terms, Level, begun, step, moved}
 use Rattle.format.specs.Rules.Next.{go}
-use Rattle.format.specs.Telegrams.{Entry, entry, Taken, fromBits, fromValues, bitsIn, valuesIn, all, bitCount, read, write}
-use Rattle.format.specs.Telegrams.Result.{refused}
+use Rattle.format.specs.Telegrams.{Entry, entry, Taken, fromBits, fromValues, bitsIn, valuesIn, all, bitCount}
 use Rattle.format.specs.Telegrams.Taken.{got}
 use Rattle.format.specs.declared.Kind.the-variants.{Length}
 use Rattle.format.specs.declared.Refusal.{Refusal}
@@ -23,7 +19,6 @@ use Rattle.laws.proofs.Points.Sends.{nothing, one-more}
 use Rattle.laws.proofs.Points.Wrong.{alone, inner, outer}
 use Rattle.laws.proofs.Points.Points.{lacking, breaking, sizing, trailing}
 use Rattle.laws.proofs.Standing.{apart}
-use Rattle.laws.proofs.Pointed.{pointing, read-pointed, write-pointed}
 
 -- ---- one last packet
 
@@ -173,14 +168,3 @@ read-one-place p bs h k = one-pointed p fromBits bitsIn Sent from-bits h k
 
 pub write-one-place : (p : Terms) (vs : List ℕ) {r q : Refusal} → Pointed p fromValues valuesIn vs r → Pointed p fromValues valuesIn vs q → r ≡ q
 write-one-place p vs h k = one-pointed p fromValues valuesIn Listed from-values h k
-
-module _ (collides : Context → ℕ → Bool) where
-  -- what is read has no place but that of its refusal
-  pub read-only-place : (bs : List ℕ) → Below 2 bs → length bs ≤ 830 → (r q : Refusal) → read (pointing collides) bs ≡ refused r
-      → Pointed (pointing collides) fromBits bitsIn bs q → q ≡ r
-  read-only-place bs b n r q e h = read-one-place (pointing collides) bs h (read-pointed collides bs b n r e)
-
-  -- and neither has what is written
-  pub write-only-place : (vs : List ℕ) (r q : Refusal) → write (pointing collides) vs ≡ refused r
-      → Pointed (pointing collides) fromValues valuesIn vs q → q ≡ r
-  write-only-place vs r q e h = write-one-place (pointing collides) vs h (write-pointed collides vs r e)

@@ -17,7 +17,7 @@ use Rattle.format.specs.declared.Refusal.{Refusal}
 use Rattle.laws.proofs.Points.{Pointed}
 use Rattle.laws.proofs.Pointed.{pointing, write-pointed}
 use Rattle.states.specs.Reader.{checked}
-use Rattle.states.proofs.Pointing.{room-passed, check-pointed}
+use Rattle.states.proofs.Pointing.{not-room, room-passed, check-pointed}
 use Rattle.sheet.specs.Reading.{Rows, sheetIn}
 use Rattle.sheet.specs.Reading.Rows.{rows, bad}
 use Rattle.sheet.specs.Sheets.{exported, Imported, otherName, named, judged, onSheet, imported, importInto}
@@ -54,10 +54,7 @@ module _ (collides : Context → ℕ → Bool) (r : Refusal) (late : 3 < numberO
 
   by-room : (test : Bool) (a : Imported) → cond test a (refusedBy (record { kind = Room; place = 0 })) ≡ refusedBy r → a ≡ refusedBy r
   by-room true a e = e
-  by-room false a e = absurd (never r (cc) late)
-    where
-      never : (q : Refusal) → record { kind = Room; place = 0 } ≡ q → 3 < numberOf (q .kind) → ⊥
-      never q i = rw (← i) (λ l. omega arith)
+  by-room false a e = absurd (not-room r (cc) late)
 
   pub import-pointed : (text : List ℕ) (room : ℕ) → importInto (pointing collides) text room ≡ refusedBy r → InColumn collides text r
   unfolding importInto imported

@@ -120,17 +120,23 @@ pub data Unsound (p : Terms) (s : List ℕ) (n : ℕ) : Refusal → Type 0 where
   padded : sized s n ≡ true → clear s n ≡ false → Unsound p s n (early Padding)
   failing : {r : Refusal} → sized s n ≡ true → clear s n ≡ true → Refused p fromBits begun (take n (bitsOf s)) r → Unsound p s n r
 
+-- the bits that are sent: each is 0 or 1, and there are n of them
+module _ (s : List ℕ) (n : ℕ) where
+  pub sent-below : Below 2 (take n (bitsOf s))
+  sent-below = below-take 2 n (bitsOf s) (below-bitsOf s)
+
+  length-sent : sized s n ≡ true → length (take n (bitsOf s)) ≡ n
+  length-sent h = let z = sized-is s n .0 h in length-take-le n (bitsOf s) (rw (length-bitsOf s) (omega arith))
+
+  pub sent-few : sized s n ≡ true → length (take n (bitsOf s)) ≤ 830
+  sent-few h = rw (length-sent h) (sized-is s n .0 h .1)
+
 module _ (p : Terms) (s : List ℕ) (n : ℕ) where
   abbrev sent : List ℕ
   sent = take n (bitsOf s)
 
-  length-sent : sized s n ≡ true → length sent ≡ n
-  length-sent h = let z = sized-is s n .0 h in length-take-le n (bitsOf s) (rw (length-bitsOf s) (omega arith))
-
-  fields-decide : sized s n ≡ true → Decides p fromBits bitsIn begun sent (read p sent)
-  fields-decide h =
-      let z = sized-is s n .0 h in
-      read-decides p sent (below-take 2 n (bitsOf s) (below-bitsOf s)) (rw (length-sent h) (z .1))
+  pub fields-decide : sized s n ≡ true → Decides p fromBits bitsIn begun sent (read p sent)
+  fields-decide h = read-decides p sent (sent-below s n) (sent-few s n h)
 
   abbrev answerBy : Bool → Bool → Result
   answerBy a b = cond a (cond b (read p sent) (refused (early Padding))) (refused (early Size))
@@ -205,7 +211,7 @@ pub accepted-tiled : (p : Terms) (s : List ℕ) (n : ℕ) (es : List Entry) → 
 accepted-tiled p s n es h =
     let a = check-judges p s n .accepts es .0 h in
     let t = tiled p (a .telegram) in
-    (t, sym (length-sent p s n (a .size)) ∙ ap length (a .is) ∙ t .all)
+    (t, sym (length-sent s n (a .size)) ∙ ap length (a .is) ∙ t .all)
 
 -- ---- what the lent run then holds
 
@@ -252,7 +258,7 @@ module _ (p : Terms) (s : List ℕ) (n : ℕ) (before after : List ℕ) where
       let room = a .0 in
       let z = sized-is s n .0 (a .1 .size) in
       let sent = ap length (a .1 .is) in
-      let l = length-sent p s n (a .1 .size) in (
+      let l = length-sent s n (a .1 .size) in (
         es,
         check-judges p s n .accepts es .1 (a .1),
         stored es count (g .2) (h .contents ∙ ap (λ (r : Result). valuesOver r before) (g .1)) (omega (arith, values-bits es)),

@@ -3,13 +3,11 @@
 use mathlib.Core.Bool.{Bool, true, false, cond}
 use mathlib.Core.List.{List}
 use mathlib.Core.Path.{_≡_, refl}
-use Prim.Native.Nat.{ℕ, _<_, _≤_}
+use Prim.Native.Nat.{ℕ, _<_}
 use native.Mathlib.Omega.{arith}
 use lib.Dec.{leb}
-use lib.ListN.{length, take}
-use lib.Seq.{length-take-le}
-use Rattle.bits.specs.Bits.{Below, bitsOf}
-use Rattle.bits.proofs.Bytes.{below-bitsOf, below-take, length-bitsOf}
+use lib.ListN.{take}
+use Rattle.bits.specs.Bits.{bitsOf}
 use Rattle.format.specs.Refusals.{numberOf}
 use Rattle.format.specs.Rules.{Context, paper, sameAsEarlier}
 use Rattle.format.specs.Telegrams.{Result, fromBits, fromValues, bitsIn, valuesIn, write}
@@ -18,13 +16,12 @@ use Rattle.format.specs.declared.Kind.the-variants.{Room}
 use Rattle.format.specs.declared.Refusal.{Refusal}
 use Rattle.laws.proofs.Points.{Pointed}
 use Rattle.laws.proofs.Pointed.{pointing, read-pointed, write-pointed}
-use Rattle.laws.proofs.Refused.{read-decides}
 use Rattle.laws.proofs.Shown.{Shown, read-shown}
 use Rattle.states.specs.Labels.{labelInto}
 use Rattle.states.specs.Normaliser.{normalOf, normaliseInto}
-use Rattle.states.specs.Reader.{sized, atOnce, checked, readInto}
+use Rattle.states.specs.Reader.{atOnce, checked, readInto}
 use Rattle.states.specs.Writer.{writeInto}
-use Rattle.states.proofs.Answers.{sized-is, field-given}
+use Rattle.states.proofs.Answers.{sent-below, sent-few, fields-decide, field-given}
 
 -- the terms that hold are some of these
 pub paper-points : pointing sameAsEarlier ≡ paper
@@ -32,12 +29,12 @@ paper-points = refl
 
 -- ---- a refusal from 4 on does not come of the room that is lent
 
+pub not-room : (r : Refusal) → record { kind = Room; place = 0 } ≡ r → 3 < numberOf (r .kind) → ⊥
+not-room r i = rw (← i) (λ l. omega arith)
+
 pub room-passed : (test : Bool) (a : Result) (r : Refusal) → 3 < numberOf (r .kind) → cond test a (atOnce Room) ≡ refused r → a ≡ refused r
 room-passed true a r l e = e
-room-passed false a r l e = let i : record { kind = Room; place = 0 } ≡ r = cc in absurd (by-kind r i l)
-  where
-    by-kind : (r : Refusal) → record { kind = Room; place = 0 } ≡ r → 3 < numberOf (r .kind) → ⊥
-    by-kind r i = rw (← i) (λ l. omega arith)
+room-passed false a r l e = absurd (not-room r (cc) l)
 
 normal-refused : (a : Result) (r : Refusal) → normalOf a ≡ refused r → a ≡ refused r
 normal-refused (accepted es) r e = cc
@@ -50,25 +47,14 @@ module _ (collides : Context → ℕ → Bool) (r : Refusal) (late : 3 < numberO
     abbrev sent : List ℕ
     sent = take n (bitsOf s)
 
-    bits-below : Below 2 sent
-    bits-below = below-take 2 n (bitsOf s) (below-bitsOf s)
-
-    bits-few : sized s n ≡ true → length sent ≤ 830
-    bits-few h =
-        let z = sized-is s n .0 h in
-        let l : length sent ≡ n = length-take-le n (bitsOf s) (rw (length-bitsOf s) (omega arith)) in
-        omega arith
-
     pub check-pointed : checked (pointing collides) s n ≡ refused r → Pointed (pointing collides) fromBits bitsIn sent r
     check-pointed e =
         let g = field-given (pointing collides) s n r late .0 e in
-        read-pointed collides sent bits-below (bits-few (g .0)) r
-        (read-decides (pointing collides) sent bits-below (bits-few (g .0)) .refuses r .1 (g .2))
+        read-pointed collides sent (sent-below s n) (sent-few s n (g .0)) r (fields-decide (pointing collides) s n (g .0) .refuses r .1 (g .2))
 
     -- the bits at the place are that field's
     pub check-shown : (e : checked (pointing collides) s n ≡ refused r) → Shown sent (check-pointed e .points)
-    check-shown e =
-        read-shown sent bits-below (bits-few (field-given (pointing collides) s n r late .0 e .0)) (check-pointed e)
+    check-shown e = read-shown sent (sent-below s n) (sent-few s n (field-given (pointing collides) s n r late .0 e .0)) (check-pointed e)
 
     pub reader-pointed : (room : ℕ) → readInto (pointing collides) s n room ≡ refused r → Pointed (pointing collides) fromBits bitsIn sent r
     unfolding readInto
