@@ -3,12 +3,12 @@ use mathlib.Core.Path.{_≡_, refl}
 use mathlib.Core.Bool.{true}
 use Rattle.bits.specs.Bits.{digits, valueOf, bitsOf}
 use Rattle.format.specs.Packets.{_⧺_, times, header, etcs, ctcs, find}
-use Rattle.format.specs.Rules.{begun, next, misdirected, broken, noted, closes, settled, onward, step, radioFrom, among, spotOf, spotAt, placeFrom, fieldPlace, sameAsEarlier}
+use Rattle.format.specs.Rules.{begun, next, misdirected, broken, noted, closes, settled, onward, step, radioFrom, clash, among, spotOf, spotAt, placeFrom, fieldPlace, collidesBy}
 use Rattle.format.specs.Normal.{metric, normalUnder}
 use Rattle.format.specs.Telegrams.{bitsIn, valuesIn, fromBits, fromValues, drive, read, write}
 use Rattle.states.specs.Reader.{checked}
 use Rattle.cases.specs.Cases.{holds, hold, cases}
 
 pub all-hold : hold cases ≡ true
-unfolding holds cases checked read write drive begun fromBits fromValues bitsIn valuesIn bitsOf digits valueOf spotOf spotAt placeFrom fieldPlace step next find etcs ctcs header times _⧺_ broken misdirected noted settled onward closes radioFrom sameAsEarlier among metric normalUnder
+unfolding holds cases checked read write drive begun fromBits fromValues bitsIn valuesIn bitsOf digits valueOf spotOf spotAt placeFrom fieldPlace step next find etcs ctcs header times _⧺_ broken misdirected noted settled onward closes radioFrom collidesBy among clash metric normalUnder
 all-hold = refl

@@ -5,7 +5,7 @@ use Prim.Native.Nat.{ℕ}
 use Prim.Native.String.{String}
 use Rattle.format.specs.Packets.{_⧺_, times, header, etcs, ctcs, find}
 use Rattle.format.specs.Refusals.{numberOf}
-use Rattle.format.specs.Rules.{begun, next, misdirected, broken, noted, closes, settled, onward, step, radioFrom, spotOf, spotAt, placeFrom, fieldPlace, among, sameAsEarlier, paper}
+use Rattle.format.specs.Rules.{begun, next, misdirected, broken, noted, closes, settled, onward, step, radioFrom, spotOf, spotAt, placeFrom, fieldPlace, clash, among, collidesBy, paper}
 use Rattle.format.specs.Telegrams.{Result, names, places, bitCount, fromValues, drive, write}
 use Rattle.format.specs.Telegrams.Result.{accepted, refused}
 
@@ -15,7 +15,7 @@ said (accepted es) = 0 ∷ bitCount es ∷ []
 said (refused r) = numberOf (r .kind) ∷ r .place ∷ []
 
 unfoldable pub written : List ℕ → Result
-unfolding write drive begun fromValues step next find etcs ctcs header times _⧺_ broken misdirected noted settled onward closes radioFrom spotOf spotAt placeFrom fieldPlace sameAsEarlier among
+unfolding write drive begun fromValues step next find etcs ctcs header times _⧺_ broken misdirected noted settled onward closes radioFrom spotOf spotAt placeFrom fieldPlace collidesBy among clash
 written vs = write paper vs
 
 -- a header, with packets or a part of one after it
@@ -53,11 +53,21 @@ inner-packets : map told
 unfolding written
 inner-packets = refl
 
--- ETCS-132 twice with Q_DIR 1, and with 1 and 0; ETCS-44 twice with Q_DIR 1; ETCS-132 and ETCS-137 with Q_DIR 1
+-- ETCS-132 twice, with each pair of directions: only 0 and 1 go together
+directions-collide : map (λ first. map (λ d. told (132 ∷ first ∷ 24 ∷ 0 ∷ 132 ∷ d ∷ 24 ∷ 0 ∷ 255 ∷ [])) (0 ∷ 1 ∷ 2 ∷ [])) (0 ∷ 1 ∷ 2 ∷ [])
+    ≡ ((10 ∷ 82 ∷ []) ∷ (0 ∷ 106 ∷ []) ∷ (10 ∷ 82 ∷ []) ∷ [])
+    ∷ ((0 ∷ 106 ∷ []) ∷ (10 ∷ 82 ∷ []) ∷ (10 ∷ 82 ∷ []) ∷ [])
+    ∷ ((10 ∷ 82 ∷ []) ∷ (10 ∷ 82 ∷ []) ∷ (10 ∷ 82 ∷ []) ∷ []) ∷ []
+unfolding written
+directions-collide = refl
+
+-- ETCS-132 three times: 0, 1 and then 2; with an ETCS-137 for both ways between 0 and 2; Q_DIR 3 for the second; ETCS-44 twice with Q_DIR 1,
+-- and with 2 and 1; ETCS-132 and ETCS-137 with Q_DIR 1
 collisions : map told
-    ((132 ∷ 1 ∷ 24 ∷ 0 ∷ 132 ∷ 1 ∷ []) ∷ (132 ∷ 1 ∷ 24 ∷ 0 ∷ 132 ∷ 0 ∷ 24 ∷ 0 ∷ 255 ∷ [])
-    ∷ (44 ∷ 1 ∷ 48 ∷ 5 ∷ 1 ∷ 25 ∷ 0 ∷ 44 ∷ 1 ∷ 48 ∷ 5 ∷ 1 ∷ 25 ∷ 0 ∷ 255 ∷ []) ∷ (132 ∷ 1 ∷ 24 ∷ 0 ∷ 137 ∷ 1 ∷ 24 ∷ 1 ∷ 255 ∷ []) ∷ [])
-    ≡ (10 ∷ 82 ∷ []) ∷ (0 ∷ 106 ∷ []) ∷ (0 ∷ 154 ∷ []) ∷ (0 ∷ 106 ∷ []) ∷ []
+    ((132 ∷ 0 ∷ 24 ∷ 0 ∷ 132 ∷ 1 ∷ 24 ∷ 0 ∷ 132 ∷ 2 ∷ []) ∷ (132 ∷ 0 ∷ 24 ∷ 0 ∷ 137 ∷ 2 ∷ 24 ∷ 1 ∷ 132 ∷ 2 ∷ []) ∷ (132 ∷ 2 ∷ 24 ∷ 0 ∷ 132 ∷ 3 ∷ [])
+    ∷ (44 ∷ 1 ∷ 48 ∷ 5 ∷ 1 ∷ 25 ∷ 0 ∷ 44 ∷ 1 ∷ 48 ∷ 5 ∷ 1 ∷ 25 ∷ 0 ∷ 255 ∷ []) ∷ (44 ∷ 2 ∷ 48 ∷ 5 ∷ 2 ∷ 25 ∷ 0 ∷ 44 ∷ 1 ∷ 48 ∷ 5 ∷ 1 ∷ 25 ∷ 0 ∷ 255 ∷ [])
+    ∷ (132 ∷ 1 ∷ 24 ∷ 0 ∷ 137 ∷ 1 ∷ 24 ∷ 1 ∷ 255 ∷ []) ∷ [])
+    ≡ (10 ∷ 106 ∷ []) ∷ (10 ∷ 106 ∷ []) ∷ (7 ∷ 82 ∷ []) ∷ (0 ∷ 154 ∷ []) ∷ (0 ∷ 154 ∷ []) ∷ (0 ∷ 106 ∷ []) ∷ []
 unfolding written
 collisions = refl
 

@@ -1,5 +1,5 @@
 -- Document 01, "Refusal numbers" and "Allowed values": which field is due, which rule its value breaks, and what is due after it; and
--- document 02, 2: where a refusal points.
+-- document 02, 2 and 3: where a refusal points, and which packets collide.
 -- Reading, writing and normalising all go by `step`. Definitions alone.
 use mathlib.Core.Bool.{Bool, true, false, cond, not, _&&_, _||_}
 use mathlib.Core.List.{List, [], _∷_}
@@ -249,16 +249,22 @@ placeFrom k at past c = spotAt (spotOf k past c) at past c
 unfoldable pub fieldPlace : Kind → State → ℕ → ℕ
 fieldPlace k s v = placeFrom k (s .at) (past s) (s .context)
 
--- ---- document 01's collisions
+-- ---- collisions
 
-unfoldable pub among : ℕ → ℕ → List Earlier → Bool
-among i d [] = false
-among i d (e ∷ es) = eqb i (e .id) && eqb d (e .dir) || among i d es
+-- Document 02, 3: "A packet valid both ways counts for each way", "From now on 2 collides with 0, 1 and 2". When two directions collide: they
+-- are the same, or one of them is both ways. (Q_DIR 3 is refused before, by 7.)
+unfoldable pub clash : ℕ → ℕ → Bool
+clash d e = eqb d e || (eqb d 2 || eqb e 2)
 
--- "10: a second packet, other than ETCS-44, has the NID_PACKET and Q_DIR of an earlier one"
-unfoldable pub sameAsEarlier : Context → ℕ → Bool
-sameAsEarlier c v = not (eqb (c .id) 44) && among (c .id) v (c .earlier)
+-- one of the packets has this NID_PACKET and a direction that collides with this one, by any rule of directions
+unfoldable pub among : (ℕ → ℕ → Bool) → ℕ → ℕ → List Earlier → Bool
+among collide i d [] = false
+among collide i d (e ∷ es) = eqb i (e .id) && collide d (e .dir) || among collide i d es
+
+-- "10: a second packet, other than ETCS-44, has the NID_PACKET .. of an earlier one", and a direction that collides with its Q_DIR
+unfoldable pub collidesBy : (ℕ → ℕ → Bool) → Context → ℕ → Bool
+collidesBy collide c v = not (eqb (c .id) 44) && among collide (c .id) v (c .earlier)
 
 -- the terms that hold
 abbrev pub paper : Terms
-paper = record { placeOf = fieldPlace; collides = sameAsEarlier }
+paper = record { placeOf = fieldPlace; collides = collidesBy clash }

@@ -6,7 +6,7 @@ use Prim.Native.Nat.{ℕ, _≤_}
 use native.Mathlib.Omega.{arith}
 use lib.ListN.{length, drop, length-append, length-take, length-drop}
 use Rattle.bits.specs.Bits.{Below}
-use Rattle.format.specs.Rules.{State, Context, Terms, sameAsEarlier, paper}
+use Rattle.format.specs.Rules.{State, Context, Terms, clash, collidesBy, paper}
 use Rattle.format.specs.Telegrams.{Entry, read, fromBits, bits, bitCount}
 use Rattle.format.specs.Telegrams.Result.{refused}
 use Rattle.format.specs.declared.Refusal.{Refusal}
@@ -44,4 +44,4 @@ read-within collides bs r b n e =
 
 -- and so within the longest telegram
 pub read-placed : (bs : List ℕ) (r : Refusal) → Below 2 bs → length bs ≤ 830 → read paper bs ≡ refused r → r .place ≤ 830
-read-placed bs r b n e = let h = read-within sameAsEarlier bs r b n e in omega arith
+read-placed bs r b n e = let h = read-within (collidesBy clash) bs r b n e in omega arith

@@ -7,7 +7,7 @@ use Rattle.pieces.specs.Pieces.{begins}
 use Rattle.pieces.specs.Numbers.{digitsOf, placesOf, decimalIn, digitsFrom, sixteenIn, placesFrom}
 use Rattle.format.specs.Fields.{fields, Q-DIR, NID-RADIO, END}
 use Rattle.format.specs.Packets.{_⧺_, times, header, etcs, ctcs, find}
-use Rattle.format.specs.Rules.{begun, next, misdirected, broken, noted, closes, settled, onward, step, radioFrom, spotOf, spotAt, placeFrom, fieldPlace, among, sameAsEarlier, paper}
+use Rattle.format.specs.Rules.{begun, next, misdirected, broken, noted, closes, settled, onward, step, radioFrom, spotOf, spotAt, placeFrom, fieldPlace, clash, among, collidesBy, paper}
 use Rattle.format.specs.Telegrams.{write, fromValues, drive, valuesIn}
 use Rattle.format.specs.declared.Kind.the-variants.{Header, Ended}
 use Rattle.states.specs.Labels.{numbersIn}
@@ -56,7 +56,7 @@ sheetWith first second end =
     (line (textOf "M_MCOUNT,8,255") (line (textOf "NID_C,10,9") (line (textOf "NID_BG,14,3007") (line (textOf "Q_LINK,1,1") (line end []))))))))))
 
 unfoldable answer : List ℕ → Reply
-unfolding imported sheetIn heading begins rowsIn rowIn fields labelText decimalIn digitsFrom digitsOf sixteenIn placesFrom write drive begun fromValues step next find etcs ctcs header times _⧺_ broken misdirected noted settled onward closes radioFrom spotOf spotAt placeFrom fieldPlace sameAsEarlier among valuesIn numbersIn
+unfolding imported sheetIn heading begins rowsIn rowIn fields labelText decimalIn digitsFrom digitsOf sixteenIn placesFrom write drive begun fromValues step next find etcs ctcs header times _⧺_ broken misdirected noted settled onward closes radioFrom spotOf spotAt placeFrom fieldPlace collidesBy among clash valuesIn numbersIn
 answer text = sizeOf (imported paper text)
 
 -- a wrong name, a wrong value and a bad row: the row wins, wherever it stands; then the value; then the name

@@ -10,7 +10,7 @@ use lib.Dec.{eqb}
 use lib.ListN.{length, take, drop, getD, replicate}
 use Rattle.bits.specs.Bits.{digits, valueOf, bitsOf}
 use Rattle.format.specs.Packets.{_⧺_, times, header, etcs, ctcs, find}
-use Rattle.format.specs.Rules.{begun, next, misdirected, broken, noted, closes, settled, onward, step, radioFrom, spotOf, spotAt, placeFrom, fieldPlace, among, sameAsEarlier, paper}
+use Rattle.format.specs.Rules.{begun, next, misdirected, broken, noted, closes, settled, onward, step, radioFrom, spotOf, spotAt, placeFrom, fieldPlace, clash, among, collidesBy, paper}
 use Rattle.format.specs.Telegrams.{Result, read, fromBits, drive, valuesIn}
 use Rattle.format.specs.Telegrams.Result.{accepted, refused}
 use Rattle.format.specs.declared.Answer.the-variants.{Accepted, Refused}
@@ -20,7 +20,7 @@ use Rattle.states.specs.Reader.{checked, readInto, answerOf, valuesOver,
 
 -- what the check answers, computed
 unfoldable computed : List ℕ → ℕ → Result
-unfolding checked read drive begun fromBits bitsOf digits valueOf step next find etcs ctcs header times _⧺_ broken misdirected noted settled onward closes radioFrom spotOf spotAt placeFrom fieldPlace sameAsEarlier among
+unfolding checked read drive begun fromBits bitsOf digits valueOf step next find etcs ctcs header times _⧺_ broken misdirected noted settled onward closes radioFrom spotOf spotAt placeFrom fieldPlace collidesBy among clash
 computed s n = checked paper s n
 
 -- document 01's case 1, of 58 bits, and the same with NID_BG 3008

@@ -11,7 +11,7 @@ use lib.Seq.{take-suc-set}
 use Rattle.format.specs.Fields.{Rule, Sense}
 use Rattle.format.specs.Fields.Rule.{any, packet, user, direction, size, pig, total, radio, within}
 use Rattle.format.specs.Fields.Sense.{plain, scale, distance, textLength}
-use Rattle.format.specs.Rules.{Earlier, Context, ruleOf, noted, among, sameAsEarlier, paper}
+use Rattle.format.specs.Rules.{Earlier, Context, ruleOf, noted, clash, among, collidesBy, paper}
 use Rattle.format.specs.Rules.Level.{inHeader, inPacket, inUser}
 use Rattle.format.specs.Table.{fieldAt, codeOf}
 use Rattle.format.proofs.Rows.{direction-width}
@@ -72,8 +72,8 @@ absurd-flag b p q = let z : _≡_ {A = ℕ} 0 1 = cc in absurd (omega arith)
 -- ---- whether it collides
 
 pub collides-as-kept : (seen : List ℕ) (n : ℕ) (s : State) (v : ℕ) (r : Bool) (l : List Earlier) → Same seen n l → v < 4
-    → r ≡ (not (eqb (s .id) 44) && among (s .id) v (packetsIn (take n seen))) → sameAsEarlier (contextOf l s) v ≡ r
-unfolding sameAsEarlier
+    → r ≡ (not (eqb (s .id) 44) && among clash (s .id) v (packetsIn (take n seen))) → collidesBy clash (contextOf l s) v ≡ r
+unfolding collidesBy
 collides-as-kept seen n s v r l same h e = rw (same (s .id) v h) (sym e)
 
 -- ---- how it is kept
@@ -134,10 +134,10 @@ earlier-grown s l v d =
 
 -- ---- and kept in the array
 
-among-last : (i d x : ℕ) (xs : List ℕ) → among i d (packetsIn (xs ++ (x ∷ []))) ≡ (eqb i (x / 4) && eqb d (x % 4) || among i d (packetsIn xs))
+among-last : (i d x : ℕ) (xs : List ℕ) → among clash i d (packetsIn (xs ++ (x ∷ []))) ≡ (eqb i (x / 4) && clash d (x % 4) || among clash i d (packetsIn xs))
 unfolding among
 among-last i d x [] = refl
-among-last i d x (y ∷ xs) = rw (among-last i d x xs) (swapped (eqb i (y / 4) && eqb d (y % 4)) (eqb i (x / 4) && eqb d (x % 4)) (among i d (packetsIn xs)))
+among-last i d x (y ∷ xs) = rw (among-last i d x xs) (swapped (eqb i (y / 4) && clash d (y % 4)) (eqb i (x / 4) && clash d (x % 4)) (among clash i d (packetsIn xs)))
   where
     swapped : (a b e : Bool) → (a || (b || e)) ≡ (b || (a || e))
     swapped true true e = refl
@@ -167,7 +167,7 @@ pub passes : (seen : List ℕ) (n : ℕ) (s : State) (v : ℕ) (b twice : Bool) 
 passes seen n s v b twice r d rep o = record { right = λ l same. o .right paper l (told l same b refl); goes = o .kept }
   where
     told : (l : List Earlier) → Same seen n l → (x : Bool) → b ≡ x → ruleAt (s .todo .node) ≡ direction → s .level ≡ Packet
-        → sameAsEarlier (contextOf l s) v ≡ twice
+        → collidesBy clash (contextOf l s) v ≡ twice
     told l same true e k h = rep e l same
     told l same false e k h = absurd (d .no e k h)
 

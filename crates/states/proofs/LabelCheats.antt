@@ -9,7 +9,7 @@ use lib.ListN.{length, drop, getD, replicate}
 use Rattle.bits.specs.Bits.{digits, valueOf}
 use Rattle.format.specs.Fields.{NID-PACKET}
 use Rattle.format.specs.Packets.{_⧺_, times, header, etcs, ctcs, find}
-use Rattle.format.specs.Rules.{begun, next, misdirected, broken, noted, closes, settled, onward, step, radioFrom, spotOf, spotAt, placeFrom, fieldPlace, among, sameAsEarlier, paper}
+use Rattle.format.specs.Rules.{begun, next, misdirected, broken, noted, closes, settled, onward, step, radioFrom, spotOf, spotAt, placeFrom, fieldPlace, clash, among, collidesBy, paper}
 use Rattle.format.specs.Telegrams.{Result, write, fromValues, drive}
 use Rattle.format.specs.declared.Answer.{Answer}
 use Rattle.states.specs.Labels.{numbersIn, labelInto, numbersOver, Label}
@@ -21,7 +21,7 @@ lent = replicate 830 0
 
 -- what is answered for them, computed
 unfoldable computed : List ℕ → Result
-unfolding labelInto write drive begun fromValues digits valueOf step next find etcs ctcs header times _⧺_ broken misdirected noted settled onward closes radioFrom spotOf spotAt placeFrom fieldPlace sameAsEarlier among
+unfolding labelInto write drive begun fromValues digits valueOf step next find etcs ctcs header times _⧺_ broken misdirected noted settled onward closes radioFrom spotOf spotAt placeFrom fieldPlace collidesBy among clash
 computed vs = labelInto paper vs (length lent)
 
 -- document 01's case 1 is the header and the end mark

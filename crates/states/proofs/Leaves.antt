@@ -7,7 +7,7 @@ use lib.Dec.{eqb}
 use lib.ListN.{take}
 use Rattle.bits.proofs.Once.{Once, equation-once}
 use Rattle.format.specs.Normal.{viewOf}
-use Rattle.format.specs.Rules.{Earlier, Context, spotOf, among}
+use Rattle.format.specs.Rules.{Earlier, Context, spotOf, clash, among}
 use Rattle.format.specs.Telegrams.{Entry}
 use Rattle.format.specs.declared.Kind.{Kind}
 use Rattle.states.specs.Machine.{Noted, senseOf, contextOf, levelOf, unread, slight}
@@ -24,8 +24,8 @@ use Rattle.format.specs.Rules as rules
 pub sized-once : (s : List ℕ) (n : ℕ) → Once (λ r. r ≡ sized s n)
 sized-once s n = equation-once (sized s n)
 
-pub collides-once : (seen : List ℕ) (n id dir : ℕ) → Once (λ r. r ≡ (not (eqb id 44) && among id dir (packetsIn (take n seen))))
-collides-once seen n id dir = equation-once (not (eqb id 44) && among id dir (packetsIn (take n seen)))
+pub collides-once : (seen : List ℕ) (n id dir : ℕ) → Once (λ r. r ≡ (not (eqb id 44) && among clash id dir (packetsIn (take n seen))))
+collides-once seen n id dir = equation-once (not (eqb id 44) && among clash id dir (packetsIn (take n seen)))
 
 pub unread-once : (told : Bool) (a c : ℕ) → Once (λ r. r ≡ unread told a c)
 unread-once told a c = equation-once (unread told a c)

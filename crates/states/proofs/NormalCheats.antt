@@ -10,7 +10,7 @@ use lib.Seq.{take-add}
 use Rattle.bits.specs.Bits.{digits, valueOf, bitsOf, bytesOf, packed, filled}
 use Rattle.format.specs.Normal.{metric, normalUnder}
 use Rattle.format.specs.Packets.{_⧺_, times, header, etcs, ctcs, find}
-use Rattle.format.specs.Rules.{begun, next, misdirected, broken, noted, closes, settled, onward, step, radioFrom, spotOf, spotAt, placeFrom, fieldPlace, among, sameAsEarlier, paper}
+use Rattle.format.specs.Rules.{begun, next, misdirected, broken, noted, closes, settled, onward, step, radioFrom, spotOf, spotAt, placeFrom, fieldPlace, clash, among, collidesBy, paper}
 use Rattle.format.specs.Telegrams.{Entry, Result, read, fromBits, drive, bitsIn}
 use Rattle.format.specs.Telegrams.Result.{accepted, refused}
 use Rattle.format.specs.declared.Answer.{Answer}
@@ -31,7 +31,7 @@ over s = s ++ drop (length s) lent
 
 -- what the normaliser answers for bytes and n, computed
 unfoldable computed : List ℕ → ℕ → Result
-unfolding normaliseInto checked read drive begun fromBits bitsOf digits valueOf step next find etcs ctcs header times _⧺_ broken misdirected noted settled onward closes radioFrom spotOf spotAt placeFrom fieldPlace sameAsEarlier among metric normalUnder
+unfolding normaliseInto checked read drive begun fromBits bitsOf digits valueOf step next find etcs ctcs header times _⧺_ broken misdirected noted settled onward closes radioFrom spotOf spotAt placeFrom fieldPlace collidesBy among clash metric normalUnder
 computed s n = normaliseInto paper s n (length lent)
 
 -- document 01's case 8 as telegrams of 137 bits, with the header of case 1: CTCS-3 at 10 m, 50 and 400; at 1 m, 500 and 4000; and at

@@ -9,7 +9,7 @@ use lib.Dec.{leb}
 use lib.ListN.{take}
 use Rattle.bits.specs.Bits.{bitsOf}
 use Rattle.format.specs.Refusals.{numberOf}
-use Rattle.format.specs.Rules.{Context, paper, sameAsEarlier}
+use Rattle.format.specs.Rules.{Context, clash, collidesBy, paper}
 use Rattle.format.specs.Telegrams.{Result, fromBits, fromValues, bitsIn, valuesIn, write}
 use Rattle.format.specs.Telegrams.Result.{accepted, refused}
 use Rattle.format.specs.declared.Kind.the-variants.{Room}
@@ -24,7 +24,7 @@ use Rattle.states.specs.Writer.{writeInto}
 use Rattle.states.proofs.Answers.{sent-below, sent-few, fields-decide, field-given}
 
 -- the terms that hold are some of these
-pub paper-points : pointing sameAsEarlier ≡ paper
+pub paper-points : pointing (collidesBy clash) ≡ paper
 paper-points = refl
 
 -- ---- a refusal from 4 on does not come of the room that is lent

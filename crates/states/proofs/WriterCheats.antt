@@ -8,7 +8,7 @@ use native.Mathlib.Omega.{arith}
 use lib.ListN.{length, drop, getD, replicate}
 use Rattle.bits.specs.Bits.{digits, valueOf, bytesOf, packed, filled}
 use Rattle.format.specs.Packets.{_⧺_, times, header, etcs, ctcs, find}
-use Rattle.format.specs.Rules.{begun, next, misdirected, broken, noted, closes, settled, onward, step, radioFrom, spotOf, spotAt, placeFrom, fieldPlace, among, sameAsEarlier, paper}
+use Rattle.format.specs.Rules.{begun, next, misdirected, broken, noted, closes, settled, onward, step, radioFrom, spotOf, spotAt, placeFrom, fieldPlace, clash, among, collidesBy, paper}
 use Rattle.format.specs.Telegrams.{Result, write, fromValues, drive, bitsIn}
 use Rattle.format.specs.declared.Answer.{Answer}
 use Rattle.format.specs.declared.Answer.the-variants.{Accepted}
@@ -20,7 +20,7 @@ lent = replicate 104 0
 
 -- what the writer answers for them, computed
 unfoldable computed : List ℕ → Result
-unfolding writeInto write drive begun fromValues digits valueOf step next find etcs ctcs header times _⧺_ broken misdirected noted settled onward closes radioFrom spotOf spotAt placeFrom fieldPlace sameAsEarlier among
+unfolding writeInto write drive begun fromValues digits valueOf step next find etcs ctcs header times _⧺_ broken misdirected noted settled onward closes radioFrom spotOf spotAt placeFrom fieldPlace collidesBy among clash
 computed vs = writeInto paper vs (length lent)
 
 -- document 01's case 1, of 58 bits, and its bytes

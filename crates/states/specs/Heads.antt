@@ -9,7 +9,7 @@ use lib.Dec.{eqb}
 use lib.ListN.{length, take}
 use Rattle.bits.specs.Take.{takeAt}
 use Rattle.bits.specs.declared.Taken.the-variants.{Field}
-use Rattle.format.specs.Rules.{among}
+use Rattle.format.specs.Rules.{clash, among}
 use Rattle.format.specs.Table.{act, fieldAt, codeOf, etcsRow, ctcsRow, words}
 use Rattle.states.specs.Seen.{packetsIn}
 use Rattle.states.specs.declared.Begun.{Begun}
@@ -99,7 +99,7 @@ pub record Opened (bytes : List ℕ) (n : ℕ) (seen : List ℕ) (met : ℕ) (s 
   pub known : codeOf (fieldAt (etcsRow (idIn bits)) .sense) ≡ 9
   pub more : act (etcsRow (idIn bits) + 2) ≡ 0 → ⊥
   pub allowed : dirIn bits ≤ 2
-  pub alone : false ≡ (not (eqb (idIn bits) 44) && among (idIn bits) (dirIn bits) (packetsIn (take met seen)))
+  pub alone : false ≡ (not (eqb (idIn bits) 44) && among clash (idIn bits) (dirIn bits) (packetsIn (take met seen)))
   pub state : r ≡ opened s bits
 
 abbrev pub Headed : List ℕ → ℕ → List ℕ → ℕ → State → Begun → Type 0

@@ -4,7 +4,7 @@ use mathlib.Core.Bool.{Bool, true, cond}
 use mathlib.Core.List.{List, [], _∷_}
 use Prim.Native.Nat.{ℕ, _+_, _*_, _/_, _%_, _<_, _≤_}
 use lib.ListN.{length, take, set}
-use Rattle.format.specs.Rules.{Earlier, among, sameAsEarlier, step, paper}
+use Rattle.format.specs.Rules.{Earlier, clash, among, collidesBy, step, paper}
 use Rattle.format.specs.Table.{fieldAt}
 use Rattle.states.specs.Machine.{contextOf, view, nextOf, earlierAfter, Stepping}
 use Rattle.states.specs.declared.Outcome.{Outcome}
@@ -20,7 +20,7 @@ packetsIn (x ∷ xs) = packetIn x ∷ packetsIn xs
 
 -- the first n of the array are the packets of a list, whatever their order
 abbrev pub Same : List ℕ → ℕ → List Earlier → Type 0
-Same seen n l = (i d : ℕ) → d < 4 → among i d l ≡ among i d (packetsIn (take n seen))
+Same seen n l = (i d : ℕ) → d < 4 → among clash i d l ≡ among clash i d (packetsIn (take n seen))
 
 pub record Repeating (seen : List ℕ) (n : ℕ) (directs : Bool) (s : State) (v : ℕ) : Type 0 where
   pub inside : n ≤ length seen
@@ -30,7 +30,7 @@ pub record Repeating (seen : List ℕ) (n : ℕ) (directs : Bool) (s : State) (v
 -- where the field is a packet's Q_DIR, the answer is whether it collides with an earlier one
 abbrev pub Repeated : List ℕ → ℕ → Bool → State → ℕ → Bool → Type 0
 Repeated seen n directs s v r =
-    directs ≡ true → (l : List Earlier) → Same seen n l → sameAsEarlier (contextOf l s) v ≡ r
+    directs ≡ true → (l : List Earlier) → Same seen n l → collidesBy clash (contextOf l s) v ≡ r
 
 pub record Keeping (seen : List ℕ) (n : ℕ) (directs : Bool) (s : State) (v : ℕ) : Type 0 where
   pub inside : n < length seen

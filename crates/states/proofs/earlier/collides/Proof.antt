@@ -6,14 +6,14 @@ use native.Mathlib.Numerals.{add-one}
 use native.Mathlib.Omega.{arith}
 use borrow.Author.Needs.{needs}
 use lib.ListN.{length, take}
-use Rattle.format.specs.Rules.{among}
+use Rattle.format.specs.Rules.{clash, among}
 use Rattle.states.specs.Seen.{packetsIn}
 use Rattle.states.proofs.Seen.{met, unmet, all-passed, told, none-told}
 use Rattle.states.proofs.earlier.collides.Statement.{statement}
 use Rattle.states.proofs.earlier.collides.Tie as tie
 
 abbrev Inv-loop : tie.InvT-loop
-Inv-loop seen n id dir i₀ i = (i ≤ n) × (among id dir (packetsIn (take i seen)) ≡ false)
+Inv-loop seen n id dir i₀ i = (i ≤ n) × (among clash id dir (packetsIn (take i seen)) ≡ false)
 
 abbrev μ-loop : tie.MeasureT-loop
 μ-loop seen n id dir i₀ i = n - i
