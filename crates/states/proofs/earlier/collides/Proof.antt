@@ -1,4 +1,4 @@
--- `states::earlier::collides` meets its contract: none of the packets passed is this one. Assumes nothing.
+-- `states::earlier::collides` meets its contract: no packet that was passed collides with this one. Assumes nothing.
 use mathlib.Core.Path.{_≡_, refl, _∙_, sym}
 use mathlib.Core.Bool.{false}
 use Prim.Native.Nat.{_≤_, _<_, _-_}
@@ -30,21 +30,21 @@ returns-2 c =
     told (c .before .before .before .before .before .args .id) _ _ (c .before .before .before .if1 .left)
     (all-passed (c .before .before .before .before .before .args .id) (c .before .before .before .before .before .args .dir) (c .before .before .before .before .before .args .seen .now) (c .before .before .loop .i) (c .before .before .before .before .before .args .n) (c .if2 .taken) (c .before .loop-test .taken) (c .before .before .loop .inv .1))
 
-mul-is-packet : tie.Need-mul-is-packet Inv-loop μ-loop
-mul-is-packet c = search needs
+mul-meets : tie.Need-mul-meets Inv-loop μ-loop
+mul-meets c = search needs
 
-shared-slice-read-is-packet : tie.Need-shared-slice-read-is-packet Inv-loop μ-loop
-shared-slice-read-is-packet c = search needs
+shared-slice-read-meets : tie.Need-shared-slice-read-meets Inv-loop μ-loop
+shared-slice-read-meets c = search needs
 
-is-packet-requires : tie.Need-is-packet-requires Inv-loop μ-loop
-is-packet-requires c κs = search needs
+meets-requires : tie.Need-meets-requires Inv-loop μ-loop
+meets-requires c κs = search needs
 
 returns-3 : tie.Need-returns-3 Inv-loop μ-loop
 returns-3 c =
     let x = c .before .before .before .if2 .left in
     let h : c .before .before .before .before .before .loop .i < length (c .before .before .before .before .before .before .before .before .args .seen .now) = omega arith in
     told (c .before .before .before .before .before .before .before .before .args .id) _ _ (c .before .before .before .before .before .before .if1 .left)
-    (met (c .before .before .before .before .before .before .before .before .args .id) (c .before .before .before .before .before .before .before .before .args .dir) (c .before .before .before .before .before .before .before .before .args .seen .now) (c .before .before .before .before .before .loop .i) (c .before .before .before .before .before .before .before .before .args .n) (c .before .before .before .before .loop-test .taken) h (sym (c .before .is-packet .ensures) ∙ c .if3 .taken))
+    (met (c .before .before .before .before .before .before .before .before .args .id) (c .before .before .before .before .before .before .before .before .args .dir) (c .before .before .before .before .before .before .before .before .args .seen .now) (c .before .before .before .before .before .loop .i) (c .before .before .before .before .before .before .before .before .args .n) (c .before .before .before .before .loop-test .taken) h (sym (c .before .meets .ensures) ∙ c .if3 .taken))
 
 add-i : tie.Need-add-i Inv-loop μ-loop
 add-i c = search needs
@@ -58,7 +58,7 @@ loop-again c =
     let y = c .before .before .before .before .loop-test .taken in
     let h : c .before .before .before .before .before .loop .i < length (c .before .before .before .before .before .before .before .before .args .seen .now) = omega arith in (
       omega arith,
-      rw add-one (unmet (c .before .before .before .before .before .before .before .before .args .id) (c .before .before .before .before .before .before .before .before .args .dir) (c .before .before .before .before .before .before .before .before .args .seen .now) (c .before .before .before .before .before .loop .i) h (c .before .before .before .before .before .loop .inv .1) (sym (c .before .is-packet .ensures) ∙ c .if3 .left)),
+      rw add-one (unmet (c .before .before .before .before .before .before .before .before .args .id) (c .before .before .before .before .before .before .before .before .args .dir) (c .before .before .before .before .before .before .before .before .args .seen .now) (c .before .before .before .before .before .loop .i) h (c .before .before .before .before .before .loop .inv .1) (sym (c .before .meets .ensures) ∙ c .if3 .left)),
     )
 
 returns-4 : tie.Need-returns-4 Inv-loop μ-loop
@@ -77,9 +77,9 @@ collides-spec =
     returns
     loop-holds
     returns-2
-    mul-is-packet
-    shared-slice-read-is-packet
-    is-packet-requires
+    mul-meets
+    shared-slice-read-meets
+    meets-requires
     returns-3
     add-i
     loop-less
