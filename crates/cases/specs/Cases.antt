@@ -92,12 +92,20 @@ eight x = 0x90 ∷ 0x02 ∷ 0x7F ∷ 0x81 ∷ 0x25 ∷ 0xDF ∷ 0xFF ∷ x ∷ [
 abbrev call : ℕ → List ℕ
 call radio = 42 ∷ 1 ∷ 113 ∷ 0 ∷ 0 ∷ 0 ∷ radio ∷ 0 ∷ []
 
+-- ETCS-132 with any Q_DIR
+abbrev danger : ℕ → List ℕ
+danger d = 132 ∷ d ∷ 24 ∷ 0 ∷ []
+
+-- ETCS-21 with any Q_DIR: level from a kilometre on
+abbrev gradient : ℕ → List ℕ
+gradient d = 21 ∷ d ∷ 54 ∷ 1 ∷ 1000 ∷ 0 ∷ 0 ∷ 0 ∷ []
+
 -- of the stop telegram
 abbrev stop44 : List ℕ
 stop44 = 44 ∷ 1 ∷ 48 ∷ 5 ∷ 1 ∷ 25 ∷ 0 ∷ []
 
 abbrev stop132 : List ℕ
-stop132 = 132 ∷ 1 ∷ 24 ∷ 0 ∷ []
+stop132 = danger 1
 
 abbrev stop137 : List ℕ
 stop137 = 137 ∷ 1 ∷ 24 ∷ 0 ∷ []
@@ -156,4 +164,13 @@ cases =
     ∷ becomes (position 2 104858) (position 2 104858)
     -- Text length 32767 at 10 m, distance 5: scale 1, 32767, 50
     ∷ becomes (text 2 5 32767) (text 1 50 32767)
+    -- Two ETCS-132 with Q_DIR 1: 10; with 0 and 1: accepted
+    ∷ breaks (danger 1 ++ danger 1) 10 82
+    ∷ fills (danger 0 ++ danger 1) 106
+    -- Document 02, 3: "an ETCS-21 with Q_DIR 1 and another with Q_DIR 2", in either order; one with 0 and one with 1 are accepted
+    ∷ breaks (gradient 1 ++ gradient 2) 10 112
+    ∷ breaks (gradient 2 ++ gradient 1) 10 112
+    ∷ fills (gradient 0 ++ gradient 1) 166
+    -- "ETCS-44 remains exempt"
+    ∷ fills (stop44 ++ stop44) 154
     ∷ []
