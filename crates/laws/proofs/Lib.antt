@@ -31,3 +31,4 @@ pub mod Shown
 pub mod OnePlace
 pub mod JustPointed
 pub mod Bounds
+pub mod Pairs
