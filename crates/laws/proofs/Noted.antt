@@ -7,7 +7,7 @@ use Prim.Native.Nat.{ℕ, _+_, _-_}
 use lib.Dec.{T, eqb}
 use Rattle.format.specs.Fields.{Rule, NID-PACKET, NID-XUSER, Q-DIR}
 use Rattle.format.specs.Fields.Rule.{any, packet, user, direction, size, pig, total, radio, within}
-use Rattle.format.specs.Rules.{Context, context, noted, spotOf, spotAt, placeFrom}
+use Rattle.format.specs.Rules.{Context, Level, context, noted, spotOf, spotAt, placeFrom}
 use Rattle.format.specs.Rules.Level.{inHeader, inPacket, inUser}
 use Rattle.format.specs.declared.Kind.the-variants.{Length}
 use Rattle.laws.proofs.Headed.{ofHeader, ofBody}
@@ -66,6 +66,34 @@ module _ (c : Context) (at v : ℕ) where
   header-noted total h = refl
   header-noted radio h = absurd h
   header-noted (within a b) h = refl
+
+-- ---- what is left of the packets before
+
+-- nothing is added to them, at any field but the Q_DIR of a packet
+module _ (c : Context) (at v : ℕ) where
+  pub kept-size : (l : Level) → c .level ≡ l → noted size c at v .earlier ≡ c .earlier
+  unfolding noted
+  kept-size inHeader e = rw e
+  kept-size inPacket e = rw e
+  kept-size inUser e = rw e
+
+  pub kept-direction : (l : Level) → c .level ≡ l → (l ≡ inPacket → ⊥) → noted direction c at v .earlier ≡ c .earlier
+  unfolding noted
+  kept-direction inHeader e n = rw e
+  kept-direction inPacket e n = absurd (n refl)
+  kept-direction inUser e n = rw e
+
+  pub kept : (r : Rule) → (r ≡ direction → c .level ≡ inPacket → ⊥) → noted r c at v .earlier ≡ c .earlier
+  unfolding noted
+  kept any n = refl
+  kept packet n = refl
+  kept user n = refl
+  kept direction n = kept-direction (c .level) refl (n refl)
+  kept size n = kept-size (c .level) refl
+  kept pig n = refl
+  kept total n = refl
+  kept radio n = refl
+  kept (within a b) n = refl
 
 -- ---- where a misfit is
 
