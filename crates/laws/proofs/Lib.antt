@@ -32,3 +32,5 @@ pub mod OnePlace
 pub mod JustPointed
 pub mod Bounds
 pub mod Pairs
+pub mod Awaited
+pub mod Recalled

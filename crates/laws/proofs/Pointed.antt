@@ -45,10 +45,10 @@ pointing collides = record { placeOf = fieldPlace; collides = collides }
 
 -- it ends where the entries do, and they stand as before
 module _ (p : Terms) (es : List Entry) (s : State) (v : ℕ) (a : s .at ≡ bitCount es) where
-  past-bits : past s ≡ bitCount (es ++ (entry s v ∷ []))
+  pub past-bits : past s ≡ bitCount (es ++ (entry s v ∷ []))
   past-bits = let w = width-named (s .todo) v in let b = bitCount-append es (entry s v ∷ []) in omega arith
 
-  stands-on : (t : Items) (c : Context) → Stands es s → step p s v ≡ go t c → Stands (es ++ (entry s v ∷ [])) (moved s t c)
+  pub stands-on : (t : Items) (c : Context) → Stands es s → step p s v ≡ go t c → Stands (es ++ (entry s v ∷ [])) (moved s t c)
   stands-on t c h e = by-way (stepped p s v) e
     where
       by-way : {n : Next} → Stepped p s v n → n ≡ go t c → Stands (es ++ (entry s v ∷ [])) (moved s t c)
@@ -148,7 +148,7 @@ module _ (collides : Context → ℕ → Bool) (source : State → List ℕ → 
 -- ---- reading and writing
 
 -- the header is due
-begun-stands : Stands [] begun
+pub begun-stands : Stands [] begun
 unfolding begun header
 begun-stands = amid tt (amid-header refl header-fields)
 
