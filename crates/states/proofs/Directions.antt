@@ -8,13 +8,14 @@ use native.Mathlib.Numerals.{add-one}
 use lib.Dec.{eqb}
 use lib.ListN.{length, take, set, length-set}
 use lib.Seq.{take-suc-set}
-use Rattle.format.specs.Fields.{Rule, Sense}
+use Rattle.format.specs.Fields.{Sense}
 use Rattle.format.specs.Fields.Rule.{any, packet, user, direction, size, pig, total, radio, within}
 use Rattle.format.specs.Fields.Sense.{plain, scale, distance, textLength}
 use Rattle.format.specs.Rules.{Earlier, Context, ruleOf, noted, clash, among, collidesBy, paper}
-use Rattle.format.specs.Rules.Level.{inHeader, inPacket, inUser}
+use Rattle.format.specs.Rules.Level.{inPacket}
 use Rattle.format.specs.Table.{fieldAt, codeOf}
 use Rattle.format.proofs.Rows.{direction-width}
+use Rattle.laws.proofs.Noted.{direction-in-packet, kept}
 use Rattle.states.specs.Machine.{contextOf, levelOf, ruleAt, earlierAfter, Directing, Stepped}
 use Rattle.states.specs.Seen.{packetsIn, Same, Held, Repeated, Passed, Noticed}
 use Rattle.states.specs.declared.Level.{Level}
@@ -22,7 +23,6 @@ use Rattle.states.specs.declared.Level.the-variants.{Header, Packet, Use
 use Rattle.states.specs.declared.State.{State}
 use Rattle.states.specs.declared.Outcome.{Outcome}
 use Rattle.states.proofs.Senses.{rule-direction}
-use Rattle.format.specs.Rules as rules
 
 -- ---- when a packet's Q_DIR is due
 
@@ -87,50 +87,23 @@ module _ (before : List ℕ) (n : ℕ) (d : Bool) (s : State) (v : ℕ) where
 
 -- ---- what is noted of the packets before
 
--- nothing, at any other field
-module _ (c : Context) (at v : ℕ) where
-  kept-size : (l : rules.Level) → c .level ≡ l → noted size c at v .earlier ≡ c .earlier
-  unfolding noted
-  kept-size inHeader e = rw e
-  kept-size inPacket e = rw e
-  kept-size inUser e = rw e
-
-  kept-direction : (l : rules.Level) → c .level ≡ l → (l ≡ inPacket → ⊥) → noted direction c at v .earlier ≡ c .earlier
-  unfolding noted
-  kept-direction inHeader e n = rw e
-  kept-direction inPacket e n = absurd (n refl)
-  kept-direction inUser e n = rw e
-
-  kept : (r : Rule) → (r ≡ direction → c .level ≡ inPacket → ⊥) → noted r c at v .earlier ≡ c .earlier
-  unfolding noted
-  kept any n = refl
-  kept packet n = refl
-  kept user n = refl
-  kept direction n = kept-direction (c .level) refl (n refl)
-  kept size n = kept-size (c .level) refl
-  kept pig n = refl
-  kept total n = refl
-  kept radio n = refl
-  kept (within a b) n = refl
-
+-- the level that stands for a packet's is that of a packet
 is-packet : (l : Level) → levelOf l ≡ inPacket → l ≡ Packet
 is-packet Header e = let z : _≡_ {A = ℕ} 0 1 = cc in absurd (omega arith)
 is-packet Packet e = refl
 is-packet User e = let z : _≡_ {A = ℕ} 0 1 = cc in absurd (omega arith)
 
+-- nothing, at any other field
 pub earlier-kept : (s : State) (l : List Earlier) (v : ℕ) → Directing s false → earlierAfter l s v ≡ l
 earlier-kept s l v d =
     kept (contextOf l s) (s .at) v (ruleAt (s .todo .node)) (λ r e. d .no refl r (is-packet (s .level) e))
 
 -- and at a packet's Q_DIR, that packet
-grown-at : (c : Context) (at v : ℕ) → c .level ≡ inPacket → noted direction c at v .earlier ≡ record { id = c .id; dir = v } ∷ c .earlier
-unfolding noted
-grown-at c at v e = rw e
-
 pub earlier-grown : (s : State) (l : List Earlier) (v : ℕ) → Directing s true → earlierAfter l s v ≡ record { id = s .id; dir = v } ∷ l
 earlier-grown s l v d =
     let y = d .yes refl in
-    ap (λ r. noted r (contextOf l s) (s .at) v .earlier) (y .0) ∙ grown-at (contextOf l s) (s .at) v (ap levelOf (y .1))
+    ap (λ r. noted r (contextOf l s) (s .at) v .earlier) (y .0)
+    ∙ ap (λ (c : Context). c .earlier) (direction-in-packet (contextOf l s) (s .at) v (ap levelOf (y .1)))
 
 -- ---- and kept in the array
 
