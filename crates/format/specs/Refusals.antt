@@ -24,7 +24,7 @@ numberOf Value = 7
 numberOf Length = 8
 -- a CTCS packet's Q_DIR differs from that of its ETCS-44
 numberOf Direction = 9
--- a second packet, other than ETCS-44, has the NID_PACKET and Q_DIR of an earlier one
+-- a second packet, other than ETCS-44, has the NID_PACKET of an earlier one and, by document 02, 3, a Q_DIR that collides with its Q_DIR
 numberOf Repeated = 10
 -- bits, or values, follow the end mark
 numberOf Trailing = 11
