@@ -34,3 +34,4 @@ pub mod Bounds
 pub mod Pairs
 pub mod Awaited
 pub mod Recalled
+pub mod Collided

@@ -4,20 +4,19 @@ use mathlib.Core.Bool.{Bool, true, false, cond, _&&_, _||_}
 use mathlib.Core.List.{List, [], _∷_, _++_}
 use mathlib.Core.Logic.{_↔_}
 use mathlib.Core.Option.{some}
-use mathlib.Core.Path.{_≡_, refl, sym, ap, _∙_, subst}
+use mathlib.Core.Path.{_≡_, refl, sym, ap, _∙_}
 use Prim.Native.Nat.{ℕ}
 use native.Mathlib.Omega.{arith}
 use borrow.Author.Tests.{eqb-true, eq-eqb}
-use lib.Dec.{T, eqb}
-use Rattle.format.specs.Fields.{Field, NID-PACKET, Q-DIR, END}
-use Rattle.format.specs.Fields.Rule.{direction}
+use lib.Dec.{eqb}
+use Rattle.format.specs.Fields.{NID-PACKET, Q-DIR, END}
 use Rattle.format.specs.Packets.{Items}
 use Rattle.format.specs.Packets.Items.{end}
-use Rattle.format.specs.Rules.{State, Context, Terms, Earlier, Next, begun, step, field, named, past, next, ruleOf, noted, fresh, moved, among}
+use Rattle.format.specs.Rules.{State, Context, Terms, Earlier, Next, begun, step, field, named, past, next, ruleOf, noted, fresh, among}
 use Rattle.format.specs.Rules.Level.{inPacket}
 use Rattle.format.specs.Rules.Next.{go}
 use Rattle.format.specs.Telegrams.{Entry, entry}
-use Rattle.laws.proofs.Steps.{going, going-on, Stepped, stepped}
+use Rattle.laws.proofs.Steps.{going-on, Stepped, stepped}
 use Rattle.laws.proofs.Steps.Settled.{on, closed, misfitted}
 use Rattle.laws.proofs.Steps.Stepped.{forbidden, marked, noticed}
 use Rattle.laws.proofs.Points.{Sends, holding}
@@ -26,7 +25,7 @@ use Rattle.laws.proofs.Headed.{named-due, packet-headed}
 use Rattle.laws.proofs.Noted.{direction-in-packet, packet-noted, kept}
 use Rattle.laws.proofs.Standing.{Stands, apart}
 use Rattle.laws.proofs.Pointed.{sends-at, stands-on, begun-stands}
-use Rattle.laws.proofs.Pairs.{PacketIn, Met, Newest, met-grown, packet-made, packet-newest, one-end, not-empty}
+use Rattle.laws.proofs.Pairs.{Met, Newest, met-grown, packet-made, packet-newest, one-end, not-empty}
 use Rattle.laws.proofs.Pairs.Newest.{old, new}
 use Rattle.laws.proofs.Awaited.{Awaits, awaits}
 use Rattle.laws.proofs.Awaited.Awaits.{begins, directs, goes-by}
@@ -49,7 +48,7 @@ module _ (collide : ℕ → ℕ → Bool) (i d : ℕ) where
   among-more n v l = refl
 
   -- where the last entry makes no packet, the packet that is met stood there before
-  met-before : {es : List Entry} {e : Entry} → ((m : ℕ) → e ≡ holding Q-DIR m → (b : List Entry) → es ≡ b ++ (holding NID-PACKET i ∷ []) → ⊥)
+  pub met-before : {es : List Entry} {e : Entry} → ((m : ℕ) → e ≡ holding Q-DIR m → (b : List Entry) → es ≡ b ++ (holding NID-PACKET i ∷ []) → ⊥)
       → Met collide (es ++ (e ∷ [])) i d → Met collide es i d
   met-before {es} {e} never h = by-last (packet-newest (h .packet))
     where
@@ -90,7 +89,7 @@ module _ (collide : ℕ → ℕ → Bool) (i d : ℕ) where
 -- ---- one field more
 
 -- the end mark and a NID_PACKET are no Q_DIR
-begins-apart : (b : Bool) → cond b END NID-PACKET ≡ Q-DIR → ⊥
+pub begins-apart : (b : Bool) → cond b END NID-PACKET ≡ Q-DIR → ⊥
 begins-apart true e = apart END Q-DIR refl e
 begins-apart false e = apart NID-PACKET Q-DIR refl e
 
