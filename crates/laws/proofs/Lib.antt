@@ -35,3 +35,4 @@ pub mod Pairs
 pub mod Awaited
 pub mod Recalled
 pub mod Collided
+pub mod Apart
