@@ -36,3 +36,4 @@ pub mod Awaited
 pub mod Recalled
 pub mod Collided
 pub mod Apart
+pub mod EachWay
