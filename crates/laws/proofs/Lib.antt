@@ -37,3 +37,4 @@ pub mod Recalled
 pub mod Collided
 pub mod Apart
 pub mod EachWay
+pub mod Stricter
