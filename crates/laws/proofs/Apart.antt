@@ -128,11 +128,13 @@ pub record Finished (p : Terms) (whole : List Entry) : Type 0 where
   pub marks : step p state value ≡ over
   pub ends : whole ≡ sent ++ (entry state value ∷ [])
 
+-- a run from what was sent on ends in its end mark
 run-finished : {p : Terms} {es : List Entry} {s : State} {rest : List Entry} → Sends p es s → Run p s rest → Finished p (es ++ rest)
 run-finished {es = es} h (last {s = s} {v = v} f e) = record { sent = es; state = s; value = v; sends = h; marks = e; ends = refl }
 run-finished {p} {es} h (more {s = s} {v = v} {es = rest} f e r) =
     subst (Finished p) (append-assoc es (entry s v ∷ []) rest) (run-finished (one-more v h f e) r)
 
+-- and so does a telegram
 pub finished : {p : Terms} {es : List Entry} → Telegram p es → Finished p es
 finished r = run-finished nothing r
 

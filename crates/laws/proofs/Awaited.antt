@@ -51,6 +51,7 @@ inside-end {id} h b e i c x j =
 user-named : (m n : ℕ) → holding NID-XUSER m ≡ holding NID-PACKET n → ⊥
 user-named m n e = apart NID-XUSER NID-PACKET refl (ap (λ (x : Entry). x .field) e)
 
+-- a field of the header makes no packet
 header-elsewhere : {es : List Entry} {f : Field} {c : Context} → InHeader f → Elsewhere es f c
 header-elsewhere k =
     record {
@@ -59,6 +60,7 @@ header-elsewhere k =
       unruled = λ e l. subst (λ r. T (ofHeader r)) e k;
     }
 
+-- a field behind an L_PACKET makes no packet
 body-elsewhere : {es : List Entry} {f : Field} {c : Context} → InBody f → Elsewhere es f c
 body-elsewhere k =
     record {
@@ -84,6 +86,7 @@ user-elsewhere =
       unruled = λ e l. let z : _≡_ {A = ℕ} 0 1 = cc in omega arith;
     }
 
+-- what is due amid the header, a packet or a CTCS packet
 amid-awaits : {es : List Entry} {s : State} (t : Items) → s .todo ≡ t → T (going t) → Amid es t (s .context) → Awaits es s
 amid-awaits t e g (amid-header l k) = goes-by (rw e g) (header-elsewhere (rw e (every-due InHeader t g k)))
 amid-awaits t e g (amid-packet l (identified b n i x q)) = directs (rw e g) (ap due e) l b n i
@@ -101,6 +104,7 @@ amid-awaits t e g (amid-user l o x y k z (identified b n i h q)) =
 amid-awaits t e g (amid-user l o x y k z (directed b n d i h q)) = goes-by (rw e g) (rw e size-elsewhere)
 amid-awaits t e g (amid-user l o x y k z (sized h i b w)) = goes-by (rw e g) (body-elsewhere (rw e (every-due InBody t g w)))
 
+-- what is due wherever the entries stand
 pub awaits : {es : List Entry} {s : State} → Stands es s → Awaits es s
 awaits (between i l x) = begins i
 awaits {s = s} (amid g h) = amid-awaits (s .todo) refl g h

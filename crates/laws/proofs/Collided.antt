@@ -24,6 +24,7 @@ use Rattle.laws.proofs.Steps.Stepped.{forbidden, marked, noticed}
 -- ---- when a packet collides
 
 module _ (collide : ℕ → ℕ → Bool) (c : Context) (v : ℕ) where
+  -- the two tests, taken apart
   by-44 : (b : Bool) → eqb (c .id) 44 ≡ b
       → ((not b && among collide (c .id) v (c .earlier)) ≡ true) ↔ ((c .id ≡ 44 → ⊥) × (among collide (c .id) v (c .earlier) ≡ true))
   by-44 true e = (λ h. let z : _≡_ {A = ℕ} 0 1 = cc in absurd (omega arith), λ h. absurd (h .0 (eqb-true (c .id) 44 e)))
@@ -52,11 +53,13 @@ module _ (p : Terms) (c : Context) (v : ℕ) where
   other-kind true k n e = let z : _≡_ {A = ℕ} 0 1 = cc in absurd (omega arith)
   other-kind false k n e = absurd (n (cc))
 
+  -- a value that a field forbids is refused as 4 or 7
   level-kind : (l : Level) → rules.forbidden l ≡ Repeated → ⊥
   level-kind inHeader e = let z : _≡_ {A = ℕ} 0 1 = cc in omega arith
   level-kind inPacket e = let z : _≡_ {A = ℕ} 0 1 = cc in omega arith
   level-kind inUser e = let z : _≡_ {A = ℕ} 0 1 = cc in omega arith
 
+  -- a Q_DIR that is refused as 10 stands in a packet that collides
   direction-repeated : (a : Bool) (l : Level) → cond a (misdirected p c l v) (some Value) ≡ some Repeated
       → (l ≡ inPacket) × (p .collides c v ≡ true)
   unfolding misdirected
@@ -115,12 +118,14 @@ module _ (p q : Terms) (c : Context) (v : ℕ) (implies : p .collides c v ≡ tr
   unless-kept true false i j = inl (cc (implies i))
   unless-kept false false i j = inl refl
 
+  -- so a direction is refused by the one as by the other, or as 10
   misdirected-kept : (l : Level) → (misdirected q c l v ≡ misdirected p c l v) ⊎ (misdirected q c l v ≡ some Repeated)
   unfolding misdirected
   misdirected-kept inHeader = inl refl
   misdirected-kept inPacket = unless-kept (p .collides c v) (q .collides c v) refl refl
   misdirected-kept inUser = inl refl
 
+  -- the test before it, that it is a direction at all, changes nothing
   cond-kept : (b : Bool) (x y : Option Kind) → (y ≡ x) ⊎ (y ≡ some Repeated)
       → (cond b y (some Value) ≡ cond b x (some Value)) ⊎ (cond b y (some Value) ≡ some Repeated)
   cond-kept true x y h = h

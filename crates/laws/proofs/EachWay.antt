@@ -1,6 +1,6 @@
 -- Clause 5.1.5: a train that runs either way gets at most one packet of each kind but ETCS-44. Two directions collide just where some train
 -- gets both. Assumes nothing.
-use mathlib.Core.Bool.{Bool, true, false, _&&_, _||_}
+use mathlib.Core.Bool.{Bool, true, false, _&&_, _||_, or-true, or-comm}
 use mathlib.Core.List.{List}
 use mathlib.Core.Path.{_≡_, refl, sym, _∙_}
 use Prim.Native.Nat.{ℕ, zero, suc, _≤_}
@@ -26,19 +26,7 @@ eqb-symmetric d e = by-test (eqb d e) refl
 -- it does not matter which of two packets is the later one
 pub clash-symmetric : (d e : ℕ) → clash d e ≡ clash e d
 unfolding clash
-clash-symmetric d e = rw (eqb-symmetric d e) (swapped (eqb e d) (eqb d 2) (eqb e 2))
-  where
-    swapped : (a b c : Bool) → (a || (b || c)) ≡ (a || (c || b))
-    swapped true b c = refl
-    swapped false true true = refl
-    swapped false true false = refl
-    swapped false false true = refl
-    swapped false false false = refl
-
--- whatever stands before it
-or-true : (c : Bool) → (c || true) ≡ true
-or-true true = refl
-or-true false = refl
+clash-symmetric d e = rw (eqb-symmetric d e, or-comm (eqb d 2) (eqb e 2))
 
 -- directions that a train running some way gets both collide
 pub served-clash : (way d e : ℕ) → serves d way ≡ true → serves e way ≡ true → clash d e ≡ true
@@ -69,14 +57,15 @@ clash-shared (suc (suc (suc d))) e h k = absurd (omega arith)
 
 -- ---- one packet of each kind for each way
 
--- of two packets of one kind in a telegram, neither stands before the other if their directions collide
+-- two packets of one kind in a telegram, whose directions collide
 module _ {es : List Entry} (telegram : Telegram paper es) (id : ℕ) (not-44 : id ≡ 44 → ⊥) where
+  -- one before the other would make a pair
   not-before : (d e : ℕ) (k : PacketIn es id e) → PacketIn (k .before) id d → clash e d ≡ true → ⊥
   not-before d e k h c =
       telegram-apart fieldPlace clash telegram
       (record { id = id; dir = e; later = k; not-44 = not-44; earlier = record { other = d; packet = h; collides = c } })
 
-  -- so they are one
+  -- so the two are one
   pub one-packet : {d e : ℕ} (h : PacketIn es id d) (k : PacketIn es id e) → clash d e ≡ true → (h .before ≡ k .before) × (d ≡ e)
   one-packet {d} {e} h k c = by-order (packets-ordered h k)
     where
@@ -85,7 +74,7 @@ module _ {es : List Entry} (telegram : Telegram paper es) (id : ℕ) (not-44 : i
       by-order (ahead x) = absurd (not-before d e k x (clash-symmetric e d ∙ c))
       by-order (behind x) = absurd (not-before e d h x c)
 
--- "a train running either way gets at most one packet of each kind", but ETCS-44
+-- "Clause 5.1.5 allows one packet per direction": a train running either way gets at most one packet of each kind but ETCS-44
 pub one-each-way : {es : List Entry} → Telegram paper es → (way id d e : ℕ) → (id ≡ 44 → ⊥) → (h : PacketIn es id d) (k : PacketIn es id e)
     → serves d way ≡ true → serves e way ≡ true → (h .before ≡ k .before) × (d ≡ e)
 one-each-way t way id d e not-44 h k a b = one-packet t id not-44 h k (served-clash way d e a b)

@@ -97,6 +97,7 @@ newest-on : {es : List Entry} {e : Entry} {b : List Entry} {i d : ℕ} (x y : En
 newest-on x y q (old a h) = old a (cc)
 newest-on x y q (new f h) = new f (cc)
 
+-- of a list that ends in one entry more, a packet is taken apart in one of these two ways
 newest : (es : List Entry) (e : Entry) (b a : List Entry) (i d : ℕ) → es ++ (e ∷ []) ≡ b ++ holding NID-PACKET i ∷ holding Q-DIR d ∷ a
     → Newest es e b i d
 newest [] e [] a i d h = let z : _≡_ {A = ℕ} 0 1 = cc in absurd (omega arith)
@@ -105,6 +106,7 @@ newest (x ∷ []) e [] a i d h = new (cc) (cc)
 newest (x ∷ y ∷ es) e [] a i d h = old es (cc)
 newest (x ∷ es) e (y ∷ b) a i d h = newest-on x y (cc) (newest es e b a i d (cc))
 
+-- so a packet among entries and one more was among them, or ends with it
 pub packet-newest : {es : List Entry} {e : Entry} {i d : ℕ} (h : PacketIn (es ++ (e ∷ [])) i d) → Newest es e (h .before) i d
 packet-newest {es} {e} {i} {d} h = newest es e (h .before) (h .after) i d (h .parts)
 
@@ -115,7 +117,13 @@ pair-before {collide} {es} {e} h never = by-last (packet-newest (h .later))
   where
     by-last : Newest es e (h .later .before) (h .id) (h .dir) → Pair collide es
     by-last (old a i) =
-        record { id = h .id; dir = h .dir; later = record { before = h .later .before; after = a; parts = i }; not-44 = h .not-44; earlier = h .earlier }
+        record {
+          id = h .id;
+          dir = h .dir;
+          later = record { before = h .later .before; after = a; parts = i };
+          not-44 = h .not-44;
+          earlier = h .earlier;
+        }
     by-last (new f i) = absurd (never f i)
 
 -- ---- two packets
@@ -130,6 +138,7 @@ pub data Order (b c : List Entry) (i d j e : ℕ) : Type 0 where
 abbrev after-one : {es : List Entry} {i d : ℕ} (x : Entry) → PacketIn es i d → PacketIn (x ∷ es) i d
 after-one x h = record { before = x ∷ h .before; after = h .after; parts = ap (λ (l : List Entry). x ∷ l) (h .parts) }
 
+-- the same element in front of both
 order-on : {b c : List Entry} {i d j e : ℕ} (x y : Entry) → x ≡ y → Order b c i d j e → Order (x ∷ b) (y ∷ c) i d j e
 order-on x y q (same h k) = same (cc) k
 order-on x y q (ahead h) = ahead (after-one y h)
@@ -139,6 +148,7 @@ order-on x y q (behind h) = behind (after-one x h)
 direction-not : {A : Type 0} (v u : ℕ) → holding Q-DIR v ≡ holding NID-PACKET u → A
 direction-not v u e = absurd (apart Q-DIR NID-PACKET refl (ap (λ (x : Entry). x .field) e))
 
+-- two ways to take a list apart at a packet, compared from its beginning
 ordered : (b c m n : List Entry) (i d j e : ℕ)
     → b ++ holding NID-PACKET i ∷ holding Q-DIR d ∷ m ≡ c ++ holding NID-PACKET j ∷ holding Q-DIR e ∷ n → Order b c i d j e
 ordered [] [] m n i d j e h =
@@ -150,5 +160,6 @@ ordered (x ∷ []) [] m n i d j e h = direction-not e i (cc)
 ordered (x ∷ w ∷ b) [] m n i d j e h = behind (record { before = []; after = b; parts = cc })
 ordered (x ∷ b) (y ∷ c) m n i d j e h = order-on x y (cc) (ordered b c m n i d j e (cc))
 
+-- so of two packets among entries one stands before the other, or they are one
 pub packets-ordered : {es : List Entry} {i d j e : ℕ} (h : PacketIn es i d) (k : PacketIn es j e) → Order (h .before) (k .before) i d j e
 packets-ordered {i = i} {d = d} {j = j} {e = e} h k = ordered (h .before) (k .before) (h .after) (k .after) i d j e (sym (h .parts) ∙ k .parts)

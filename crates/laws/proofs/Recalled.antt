@@ -1,6 +1,6 @@
 -- The context recalls just the packets that were sent: along the entries, it knows the NID_PACKET of the packet in hand and whether a
 -- packet of any kind and direction meets an earlier one. For any terms, and by any rule of directions. Assumes nothing.
-use mathlib.Core.Bool.{Bool, true, false, cond, _&&_, _||_}
+use mathlib.Core.Bool.{Bool, true, false, cond, _&&_, _||_, or-true}
 use mathlib.Core.List.{List, [], _∷_, _++_}
 use mathlib.Core.Logic.{_↔_}
 use mathlib.Core.Option.{some}
@@ -38,14 +38,21 @@ pub record Recalls (es : List Entry) (c : Context) : Type 0 where
 -- ---- one packet more
 
 module _ (collide : ℕ → ℕ → Bool) (i d : ℕ) where
+  -- among no packets, none is met
   among-none : among collide i d [] ≡ false
   unfolding among
   among-none = refl
 
+  -- among one packet more, it is met or one of the others is
   among-more : (n v : ℕ) (l : List Earlier)
       → among collide i d (record { id = n; dir = v } ∷ l) ≡ (eqb i n && collide d v || among collide i d l)
   unfolding among
   among-more n v l = refl
+
+  -- a packet that is met, with the same before it in other entries
+  abbrev met-old : {es fs : List Entry} (h : Met collide fs i d) (a : List Entry)
+      → es ≡ h .packet .before ++ holding NID-PACKET i ∷ holding Q-DIR (h .other) ∷ a → Met collide es i d
+  met-old h a j = record { other = h .other; packet = record { before = h .packet .before; after = a; parts = j }; collides = h .collides }
 
   -- where the last entry makes no packet, the packet that is met stood there before
   pub met-before : {es : List Entry} {e : Entry} → ((m : ℕ) → e ≡ holding Q-DIR m → (b : List Entry) → es ≡ b ++ (holding NID-PACKET i ∷ []) → ⊥)
@@ -53,13 +60,14 @@ module _ (collide : ℕ → ℕ → Bool) (i d : ℕ) where
   met-before {es} {e} never h = by-last (packet-newest (h .packet))
     where
       by-last : Newest es e (h .packet .before) i (h .other) → Met collide es i d
-      by-last (old a j) = record { other = h .other; packet = record { before = h .packet .before; after = a; parts = j }; collides = h .collides }
+      by-last (old a j) = met-old h a j
       by-last (new f j) = absurd (never (h .other) f (h .packet .before) j)
 
   module _ {es : List Entry} (b : List Entry) (n v : ℕ) (l : List Earlier) (ends : es ≡ b ++ (holding NID-PACKET n ∷ []))
       (ih : (among collide i d l ≡ true) ↔ Met collide es i d) where
     -- the packet is met that its Q_DIR just made, or one before
-    more-met : (p q : Bool) → eqb i n ≡ p → collide d v ≡ q → (p && q || among collide i d l) ≡ true → Met collide (es ++ (holding Q-DIR v ∷ [])) i d
+    more-met : (p q : Bool) → eqb i n ≡ p → collide d v ≡ q → (p && q || among collide i d l) ≡ true
+        → Met collide (es ++ (holding Q-DIR v ∷ [])) i d
     more-met true true ei ec h =
         let j : n ≡ i = sym (eqb-true i n ei) in
         record { other = v; packet = packet-made b v (rw j at ends); collides = ec }
@@ -67,22 +75,18 @@ module _ (collide : ℕ → ℕ → Bool) (i d : ℕ) where
     more-met false q ei ec h = met-grown (ih .0 h) (holding Q-DIR v ∷ [])
 
     -- and either is recalled
-    or-right : (p : Bool) → among collide i d l ≡ true → (p || among collide i d l) ≡ true
-    or-right true h = refl
-    or-right false h = h
-
     met-more : Met collide (es ++ (holding Q-DIR v ∷ [])) i d → (eqb i n && collide d v || among collide i d l) ≡ true
     met-more h = by-last (packet-newest (h .packet))
       where
         by-last : Newest es (holding Q-DIR v) (h .packet .before) i (h .other) → (eqb i n && collide d v || among collide i d l) ≡ true
         by-last (old a j) =
-            or-right (eqb i n && collide d v)
-            (ih .1 (record { other = h .other; packet = record { before = h .packet .before; after = a; parts = j }; collides = h .collides }))
+            rw (ih .1 (met-old h a j)) (or-true (eqb i n && collide d v))
         by-last (new f j) =
             let ev : v ≡ h .other = ap (λ (e : Entry). e .value) f in
             let en : i ≡ n = ap (λ (e : Entry). e .value) (one-end (h .packet .before) b _ _ (sym j ∙ ends) .1) in
             rw (eq-eqb i n en, ev, h .collides)
 
+    -- so with a packet more, just the packets that were sent are recalled
     pub met-made : (among collide i d (record { id = n; dir = v } ∷ l) ≡ true) ↔ Met collide (es ++ (holding Q-DIR v ∷ [])) i d
     met-made = (λ h. more-met (eqb i n) (collide d v) refl refl (sym (among-more n v l) ∙ h), λ h. among-more n v l ∙ met-more h)
 
@@ -94,12 +98,13 @@ begins-apart true e = apart END Q-DIR refl e
 begins-apart false e = apart NID-PACKET Q-DIR refl e
 
 module _ (es : List Entry) (s : State) (v : ℕ) where
+  -- the context after the value
   abbrev after : Context
   after = noted (ruleOf (field s .sense)) (s .context) (s .at) v
 
   -- the fields that make no packet leave what is met as it was
-  met-kept : (after .earlier ≡ s .context .earlier) → ((m : ℕ) → entry s v ≡ holding Q-DIR m → (b : List Entry) (n : ℕ) → es ≡ b ++ (holding NID-PACKET n ∷ []) → ⊥)
-      → Recalls es (s .context) → (collide : ℕ → ℕ → Bool) (i d : ℕ)
+  met-kept : after .earlier ≡ s .context .earlier
+      → ((m : ℕ) → entry s v ≡ holding Q-DIR m → (b : List Entry) (n : ℕ) → es ≡ b ++ (holding NID-PACKET n ∷ []) → ⊥) → Recalls es (s .context) → (collide : ℕ → ℕ → Bool) (i d : ℕ)
       → (among collide i d (after .earlier) ≡ true) ↔ Met collide (es ++ (entry s v ∷ [])) i d
   met-kept k never h collide i d =
       rw k (
@@ -115,6 +120,7 @@ module _ (es : List Entry) (s : State) (v : ℕ) where
       rw (f, m, direction-in-packet (s .context) (s .at) v l, h .identifies b n e)
       (met-made collide i d b n v (s .context .earlier) e (h .met collide i d))
 
+  -- so the packets that are recalled are those that were sent, after any field
   met-next : Awaits es s → Recalls es (s .context) → (collide : ℕ → ℕ → Bool) (i d : ℕ)
       → (among collide i d (after .earlier) ≡ true) ↔ Met collide (es ++ (entry s v ∷ [])) i d
   met-next (begins t) h =
@@ -135,6 +141,7 @@ module _ (es : List Entry) (s : State) (v : ℕ) where
   last-named : (b : List Entry) (n : ℕ) → es ++ (entry s v ∷ []) ≡ b ++ (holding NID-PACKET n ∷ []) → entry s v ≡ holding NID-PACKET n
   last-named b n e = one-end es b (entry s v) (holding NID-PACKET n) e .1
 
+  -- the NID_PACKET that was sent last is noted
   identifies-next : Awaits es s → (b : List Entry) (n : ℕ) → es ++ (entry s v ∷ []) ≡ b ++ (holding NID-PACKET n ∷ []) → after .id ≡ n
   identifies-next a b n e =
       let l = last-named b n e in
@@ -150,6 +157,7 @@ module _ (es : List Entry) (s : State) (v : ℕ) where
       let hd = packet-headed v u (rw t at j) in
       going-on u (rw (hd .is) tt) q
 
+  -- one field more, and the context recalls just what was sent
   pub recalls-next : (p : Terms) (t : Items) (c : Context) → Awaits es s → Recalls es (s .context) → step p s v ≡ go t c
       → Recalls (es ++ (entry s v ∷ [])) c
   recalls-next p t c a h e = by-way (stepped p s v) e

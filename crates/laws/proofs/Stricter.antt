@@ -1,14 +1,14 @@
--- Two terms, by the second of which more collides. What the second accepts, the first accepts; and what the first accepts, the second accepts
--- too, or refuses as 10. So a telegram is accepted just where it is without rule 10, and has no pair. Assumes nothing.
+-- Two terms, by the second of which more collides. What the second accepts, the first accepts; and what the first accepts, the second
+-- accepts too, or refuses as 10. So a telegram is accepted just where it is without rule 10, and has no pair. Assumes nothing.
 use mathlib.Core.Bool.{Bool, true, false}
 use mathlib.Core.List.{List, [], _∷_, _++_, append-assoc}
 use mathlib.Core.Logic.{_↔_, _⊎_, inl, inr, ⊎-elim}
-use mathlib.Core.Path.{_≡_, refl, sym, ap, _∙_, subst}
+use mathlib.Core.Path.{_≡_, sym, _∙_, subst}
 use Prim.Native.Nat.{ℕ}
 use native.Mathlib.Omega.{arith}
 use Rattle.format.specs.Packets.{Items}
 use Rattle.format.specs.Rules.{State, Context, Terms, Next, step, moved}
-use Rattle.format.specs.Rules.Next.{go, over, breaks}
+use Rattle.format.specs.Rules.Next.{go, breaks}
 use Rattle.format.specs.Telegrams.{Entry, entry, Fits, Run, Telegram}
 use Rattle.format.specs.Telegrams.Run.{last, more}
 use Rattle.format.specs.declared.Kind.{Kind}
@@ -41,13 +41,16 @@ module _ (p q : Terms) (stricter : Stricter p q) where
   pub step-weaker : (s : State) (v : ℕ) {n : Next} → step q s v ≡ n → (n ≡ breaks Repeated → ⊥) → step p s v ≡ n
   step-weaker s v e not = ⊎-elim (λ k. sym k ∙ e) (λ k. absurd (not (sym e ∙ k))) (step-kept p q stricter s v)
 
+  -- where the second leads on, the first does
   go-weaker : (s : State) (v : ℕ) {t : Items} {c : Context} → step q s v ≡ go t c → step p s v ≡ go t c
   go-weaker s v e = step-weaker s v e (λ i. let z : _≡_ {A = ℕ} 0 1 = cc in omega arith)
 
+  -- a run by the second is one by the first
   pub run-weaker : {s : State} {es : List Entry} → Run q s es → Run p s es
   run-weaker (last {s = s} {v = v} f e) = last f (step-weaker s v e (λ i. let z : _≡_ {A = ℕ} 0 1 = cc in omega arith))
   run-weaker (more {s = s} {v = v} f e r) = more f (go-weaker s v e) (run-weaker r)
 
+  -- entries that are sent by the second are sent by the first
   pub sends-weaker : {es : List Entry} {s : State} → Sends q es s → Sends p es s
   sends-weaker nothing = nothing
   sends-weaker (one-more {s = s} v h f e) = one-more v (sends-weaker h) f (go-weaker s v e)
@@ -69,6 +72,7 @@ module _ (p q : Terms) (stricter : Stricter p q) where
           parts = sym (append-assoc es (entry s v ∷ []) rest);
         }
 
+  -- a run by the first is one by the second, or halts
   goes-on : {es : List Entry} {s : State} {rest : List Entry} → Sends q es s → Run p s rest → Run q s rest ⊎ Halted q (es ++ rest)
   goes-on {es} h (last {s = s} {v = v} f e) = by-step (step-kept p q stricter s v)
     where
@@ -85,6 +89,7 @@ module _ (p q : Terms) (stricter : Stricter p q) where
           ⊎-elim (λ w. inl (more f (k ∙ e) w)) (λ w. inr (subst (Halted q) (append-assoc es (entry s v ∷ []) rest) w)) (on (k ∙ e))
       by-step (inr k) on = inr (halts-here h f rest k)
 
+  -- and so is a telegram
   pub accepted-or-halted : {es : List Entry} → Telegram p es → Telegram q es ⊎ Halted q es
   accepted-or-halted r = goes-on nothing r
 
