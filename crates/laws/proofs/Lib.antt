@@ -38,3 +38,4 @@ pub mod Collided
 pub mod Apart
 pub mod EachWay
 pub mod Stricter
+pub mod Mended

@@ -1,0 +1,183 @@
+-- A rule of directions that is made stricter: what the new rule accepts, the old one did; and what the old one accepted, the new one
+-- accepts too, or it has a pair and is refused at the Q_DIR that makes its first. For any two such rules, in reading and in writing.
+-- Assumes nothing.
+use mathlib.Core.Bool.{Bool, true, false, _&&_, _||_, or-true}
+use mathlib.Core.List.{List, [], _∷_, _++_, append-assoc}
+use mathlib.Core.Logic.{_↔_, _⊎_, inl, inr, ⊎-elim}
+use mathlib.Core.Path.{_≡_, refl, sym, ap, _∙_, subst}
+use Prim.Native.Nat.{ℕ, _≤_}
+use native.Mathlib.Omega.{arith}
+use lib.Dec.{eqb}
+use lib.ListN.{length}
+use Rattle.bits.specs.Bits.{Below}
+use Rattle.format.specs.Fields.{NID-PACKET}
+use Rattle.format.specs.Rules.{State, Terms, Earlier, begun, among, collidesBy, fieldPlace}
+use Rattle.format.specs.Telegrams.{Entry, entry, Taken, Result, read, write, fromBits, fromValues, bitsIn, valuesIn, all, bits, values, bitCount, Telegram}
+use Rattle.format.specs.Telegrams.Result.{accepted, refused}
+use Rattle.format.specs.declared.Kind.the-variants.{Repeated}
+use Rattle.format.specs.declared.Refusal.{Refusal}
+use Rattle.laws.proofs.Sources.{Source, Sent, Listed, from-bits, from-values}
+use Rattle.laws.proofs.Round.{all-append}
+use Rattle.laws.proofs.Demand2.{below-bits, room}
+use Rattle.laws.proofs.Refused.{Decides, read-decides, write-decides}
+use Rattle.laws.proofs.Points.{holding, Pointed}
+use Rattle.laws.proofs.Points.Points.{breaking}
+use Rattle.laws.proofs.Offending.{offends}
+use Rattle.laws.proofs.Pointed.{pointing}
+use Rattle.laws.proofs.JustPointed.{read-refuses, write-refuses}
+use Rattle.laws.proofs.Pairs.{Pair, laterAt, pair-grown}
+use Rattle.laws.proofs.Recalled.{sends-stands}
+use Rattle.laws.proofs.Collided.{collides-is, breaks-repeated}
+use Rattle.laws.proofs.Apart.{NewPair, new-pair-at, repeated-pair, sends-apart, telegram-apart}
+use Rattle.laws.proofs.Stricter.{Stricter, Halted, run-weaker, accepted-or-halted}
+
+-- the terms of a rule of directions, whose refusals point at their fields
+abbrev pub directing : (ℕ → ℕ → Bool) → Terms
+directing collide = pointing (collidesBy collide)
+
+-- the refusal as 10 at the later packet's Q_DIR
+abbrev pub repeatedAt : {collide : ℕ → ℕ → Bool} {es : List Entry} → Pair collide es → Refusal
+repeatedAt h = record { kind = Repeated; place = laterAt h }
+
+-- entries that have a pair, of which the later packet is the first that makes one; and there reading and writing refuse them
+pub record Turned (collide : ℕ → ℕ → Bool) (es : List Entry) : Type 0 where
+  pub pair : Pair collide es
+  pub first : Pair collide (pair .later .before) → ⊥
+  pub read-now : read (directing collide) (bits es) ≡ refused (repeatedAt pair)
+  pub written-now : write (directing collide) (values es) ≡ refused (repeatedAt pair)
+
+-- ---- where a run halts
+
+module _ (collide : ℕ → ℕ → Bool) where
+  module _ (source : State → List ℕ → Taken) (part : Entry → List ℕ) (Good : State → List ℕ → Type 0) (law : Source source part Good) where
+    -- the refusal points at the field where it halts
+    halted-pointed : {es : List Entry} (h : Halted (directing collide) es)
+        → Pointed (directing collide) source part (all part es) (record { kind = Repeated; place = bitCount (h .sent) })
+    halted-pointed h =
+        let e = entry (h .state) (h .value) in
+        let k = breaks-repeated (directing collide) (h .state) (h .value) (h .repeats) in
+        let o = offends (directing collide) (h .state) (h .value) Repeated (sends-stands (h .sends)) k in
+        record {
+          sent = h .sent;
+          state = h .state;
+          left = part e ++ all part (h .left);
+          sends = h .sends;
+          front = ap (all part) (h .parts ∙ append-assoc (h .sent) (e ∷ []) (h .left)) ∙ all-append part (h .sent) (e ∷ h .left);
+          points = breaking (law .gives (h .state) (h .value) (all part (h .left)) (h .fits)) (h .repeats) o;
+        }
+
+  -- there the first pair is made
+  halted-first : {es : List Entry} {e : Entry} (h : Halted (directing collide) es) (w : NewPair collide (h .sent) e)
+      → Pair collide (w .pair .later .before) → ⊥
+  halted-first h w k =
+      sends-apart fieldPlace collide (h .sends) (subst (Pair collide) (sym (w .ends)) (pair-grown k (holding NID-PACKET (w .pair .id) ∷ [])))
+
+  -- so what halts is refused there, in reading and in writing
+  halted-turned : {es : List Entry} → Halted (directing collide) es → length (bits es) ≤ 830 → Turned collide es
+  halted-turned {es} h n =
+      let w = repeated-pair fieldPlace collide (h .sends) (h .repeats) in
+      let at = ap (λ (x : ℕ). refused (record { kind = Repeated; place = x })) (sym (new-pair-at w)) in
+      let r = read-refuses (collidesBy collide) (bits es) (below-bits es) n _ .1 (halted-pointed fromBits bitsIn Sent from-bits h) in
+      let s = write-refuses (collidesBy collide) (values es) _ .1 (halted-pointed fromValues valuesIn Listed from-values h) in
+      subst (Turned collide) (sym (h .parts))
+      (record {
+        pair = pair-grown (w .pair) (h .left);
+        first = halted-first h w;
+        read-now = ap (λ (l : List Entry). read (directing collide) (bits l)) (sym (h .parts)) ∙ r ∙ at;
+        written-now = ap (λ (l : List Entry). write (directing collide) (values l)) (sym (h .parts)) ∙ s ∙ at;
+      })
+
+-- ---- two rules of directions, of which the second is the stricter
+
+module _ (weak strong : ℕ → ℕ → Bool) (implies : (d e : ℕ) → weak d e ≡ true → strong d e ≡ true) where
+  -- the terms before, and now
+  abbrev old : Terms
+  old = directing weak
+
+  abbrev new : Terms
+  new = directing strong
+
+  -- a packet that is met by the weak rule is met by the strong one
+  one-implies : (i d : ℕ) (e : Earlier) (l : List Earlier) (a b : Bool) → weak d (e .dir) ≡ b
+      → (among weak i d l ≡ true → among strong i d l ≡ true) → (a && b || among weak i d l) ≡ true → (a && strong d (e .dir) || among strong i d l) ≡ true
+  one-implies i d e l true true k on h = rw (implies d (e .dir) k)
+  one-implies i d e l true false k on h = rw (on h) (or-true (strong d (e .dir)))
+  one-implies i d e l false b k on h = on h
+
+  -- of all packets before
+  among-implies : (i d : ℕ) (l : List Earlier) → among weak i d l ≡ true → among strong i d l ≡ true
+  unfolding among
+  among-implies i d [] h = h
+  among-implies i d (e ∷ l) h = one-implies i d e l (eqb i (e .id)) (weak d (e .dir)) refl (among-implies i d l) h
+
+  -- so what collides by the weak rule collides by the strong one
+  pub stricter : Stricter old new
+  stricter c v h =
+      let w = collides-is weak c v .0 h in
+      collides-is strong c v .1 (w .0, among-implies (c .id) v (c .earlier) (w .1))
+
+  -- ---- telegrams
+
+  -- what is accepted now was accepted before
+  pub still-accepted : {es : List Entry} → Telegram new es → Telegram old es
+  still-accepted t = run-weaker old new stricter t
+
+  -- What was accepted is accepted and has no pair; or it is refused, as "10, in its old order, at the later packet of any such pair". Of
+  -- several pairs that is the one whose later packet comes first.
+  pub mended : {es : List Entry} → Telegram old es → (Telegram new es × (Pair strong es → ⊥)) ⊎ Turned strong es
+  unfolding begun
+  mended t =
+      let n = room old t in
+      ⊎-elim (λ r. inl (r, telegram-apart fieldPlace strong r)) (λ h. inr (halted-turned strong h (omega arith)))
+      (accepted-or-halted old new stricter t)
+
+  -- so what was accepted and has a pair is refused there
+  pub pair-turned : {es : List Entry} → Telegram old es → Pair strong es → Turned strong es
+  pair-turned t k = ⊎-elim (λ r. absurd (r .1 k)) (λ h. h) (mended t)
+
+  -- ---- from any source
+
+  module _ {source : State → List ℕ → Taken} {part : Entry → List ℕ} {xs : List ℕ} {before now : Result}
+      (was : Decides old source part begun xs before) (is : Decides new source part begun xs now) where
+    -- it is accepted now just where it was before and has no pair
+    accepted-just : (es : List Entry) → (now ≡ accepted es) ↔ ((before ≡ accepted es) × (Pair strong es → ⊥))
+    accepted-just es = (
+      λ e. let h = is .accepts es .0 e in (was .accepts es .1 (still-accepted (h .0), h .1), telegram-apart fieldPlace strong (h .0)),
+      λ h. let w = was .accepts es .0 (h .0) in
+          ⊎-elim (λ t. is .accepts es .1 (t .0, w .1)) (λ t. absurd (h .1 (t .pair))) (mended (w .0)),
+    )
+
+    -- an answer is not of both sorts
+    not-both : {A : Type 0} {es : List Entry} {r : Refusal} → now ≡ accepted es → now ≡ refused r → A
+    not-both e f = let z : _≡_ {A = ℕ} 0 1 = cc in absurd (omega arith)
+
+    -- what was accepted before is refused now just where it has a pair
+    refused-just : (es : List Entry) → (xs ≡ all part es → Turned strong es → (r : Refusal) × (now ≡ refused r)) → before ≡ accepted es
+        → ((r : Refusal) × (now ≡ refused r)) ↔ Pair strong es
+    refused-just es turns h =
+        let w = was .accepts es .0 h in (
+          λ r. ⊎-elim (λ t. not-both (is .accepts es .1 (t .0, w .1)) (r .1)) (λ t. t .pair) (mended (w .0)),
+          λ k. ⊎-elim (λ t. absurd (t .1 k)) (turns (w .1)) (mended (w .0)),
+        )
+
+  -- ---- reading and writing
+
+  module _ (bs : List ℕ) (b : Below 2 bs) (n : length bs ≤ 830) (es : List Entry) where
+    -- what is read now is just what was read before and has no pair
+    pub read-just : (read new bs ≡ accepted es) ↔ ((read old bs ≡ accepted es) × (Pair strong es → ⊥))
+    read-just = accepted-just (read-decides old bs b n) (read-decides new bs b n) es
+
+    -- what was read before and is refused now is just what has a pair
+    pub read-turned : read old bs ≡ accepted es → ((r : Refusal) × (read new bs ≡ refused r)) ↔ Pair strong es
+    read-turned =
+        refused-just (read-decides old bs b n) (read-decides new bs b n) es (λ i t. (repeatedAt (t .pair), ap (read new) i ∙ t .read-now))
+
+  module _ (vs : List ℕ) (es : List Entry) where
+    -- what is written now is just what was written before and has no pair
+    pub write-just : (write new vs ≡ accepted es) ↔ ((write old vs ≡ accepted es) × (Pair strong es → ⊥))
+    write-just = accepted-just (write-decides old vs) (write-decides new vs) es
+
+    -- what was written before and is refused now is just what has a pair
+    pub write-turned : write old vs ≡ accepted es → ((r : Refusal) × (write new vs ≡ refused r)) ↔ Pair strong es
+    write-turned =
+        refused-just (write-decides old vs) (write-decides new vs) es (λ i t. (repeatedAt (t .pair), ap (write new) i ∙ t .written-now))
