@@ -39,3 +39,4 @@ pub mod Apart
 pub mod EachWay
 pub mod Stricter
 pub mod Mended
+pub mod StillRefused
