@@ -40,3 +40,4 @@ pub mod EachWay
 pub mod Stricter
 pub mod Mended
 pub mod StillRefused
+pub mod BothWays
