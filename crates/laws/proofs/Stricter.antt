@@ -95,6 +95,10 @@ module _ (p q : Terms) (stricter : Stricter p q) where
 
 -- ---- just the pairs
 
+-- the terms without rule 10, wherever their refusals point
+abbrev pub unruled : (Kind → State → ℕ → ℕ) → Terms
+unruled place = record { placeOf = place; collides = λ c v. false }
+
 module _ (place : Kind → State → ℕ → ℕ) (collide : ℕ → ℕ → Bool) where
   -- a run that halts has a pair
   pub halted-pair : {es : List Entry} → Halted (ruled place collide) es → Pair collide es
@@ -106,16 +110,12 @@ module _ (place : Kind → State → ℕ → ℕ) (collide : ℕ → ℕ → Boo
   only-pairs p stricter t apart =
       ⊎-elim (λ r. r) (λ h. absurd (apart (halted-pair h))) (accepted-or-halted p (ruled place collide) stricter t)
 
-  -- the terms without rule 10
-  abbrev pub unruled : Terms
-  unruled = record { placeOf = place; collides = λ c v. false }
-
   -- all that rule 10 asks of a telegram is that it has no pair
-  pub just-pairs : {es : List Entry} → Telegram (ruled place collide) es ↔ (Telegram unruled es × (Pair collide es → ⊥))
+  pub just-pairs : {es : List Entry} → Telegram (ruled place collide) es ↔ (Telegram (unruled place) es × (Pair collide es → ⊥))
   just-pairs = (
-    λ t. (run-weaker unruled (ruled place collide) never t, telegram-apart place collide t),
-    λ h. only-pairs unruled never (h .0) (h .1),
+    λ t. (run-weaker (unruled place) (ruled place collide) never t, telegram-apart place collide t),
+    λ h. only-pairs (unruled place) never (h .0) (h .1),
   )
     where
-      never : Stricter unruled (ruled place collide)
+      never : Stricter (unruled place) (ruled place collide)
       never c v e = cc
