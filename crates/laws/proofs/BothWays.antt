@@ -2,7 +2,7 @@
 -- train gets both. Assumes nothing.
 use mathlib.Core.Bool.{Bool, true, false, _||_}
 use mathlib.Core.List.{List}
-use mathlib.Core.Logic.{_↔_, _⊎_, inl, inr}
+use mathlib.Core.Logic.{_⊎_, inl, inr}
 use mathlib.Core.Path.{_≡_, refl}
 use Prim.Native.Nat.{ℕ, _≤_}
 use native.Mathlib.Omega.{arith}
@@ -12,12 +12,11 @@ use lib.ListN.{length}
 use Rattle.bits.specs.Bits.{Below}
 use Rattle.format.specs.Rules.{State, clash, paper}
 use Rattle.format.specs.Telegrams.{Entry, read, write, Telegram}
-use Rattle.format.specs.Telegrams.Result.{accepted, refused}
 use Rattle.format.specs.declared.Kind.{Kind}
-use Rattle.format.specs.declared.Refusal.{Refusal}
 use Rattle.laws.proofs.Pairs.{Pair}
 use Rattle.laws.proofs.Apart.{ruled, telegram-apart}
-use Rattle.laws.proofs.Mended.{directing, Turned, still-accepted, mended, read-turned, write-turned}
+use Rattle.laws.proofs.Mended.{directing}
+use Rattle.laws.proofs.Changed.{Changed, read-changed, write-changed}
 
 -- directions that are the same collide by either rule
 pub same-clash : (d e : ℕ) → eqb d e ≡ true → clash d e ≡ true
@@ -52,20 +51,10 @@ both-ways-pair place t h =
 
 -- ---- the change
 
--- what is accepted now was accepted before
-pub kept-by-paper : {es : List Entry} → Telegram paper es → Telegram (directing eqb) es
-kept-by-paper t = still-accepted eqb clash same-clash t
+-- "From now on 2 collides with 0, 1 and 2": what it changes in reading
+pub read-both-ways : (bs : List ℕ) → Below 2 bs → length bs ≤ 830 → Changed clash (read (directing eqb) bs) (read paper bs)
+read-both-ways = read-changed eqb clash same-clash
 
--- what was accepted is accepted and has no pair, or is refused where its first pair is made
-pub mended-by-paper : {es : List Entry} → Telegram (directing eqb) es → (Telegram paper es × (Pair clash es → ⊥)) ⊎ Turned clash es
-mended-by-paper t = mended eqb clash same-clash t
-
--- what was read before and is refused now is just what has a pair
-pub read-turned-by-paper : (bs : List ℕ) → Below 2 bs → length bs ≤ 830 → (es : List Entry) → read (directing eqb) bs ≡ accepted es
-    → ((r : Refusal) × (read paper bs ≡ refused r)) ↔ Pair clash es
-read-turned-by-paper bs b n es h = read-turned eqb clash same-clash bs b n es h
-
--- and so in writing
-pub write-turned-by-paper : (vs : List ℕ) (es : List Entry) → write (directing eqb) vs ≡ accepted es
-    → ((r : Refusal) × (write paper vs ≡ refused r)) ↔ Pair clash es
-write-turned-by-paper vs es h = write-turned eqb clash same-clash vs es h
+-- and in writing
+pub write-both-ways : (vs : List ℕ) → Changed clash (write (directing eqb) vs) (write paper vs)
+write-both-ways = write-changed eqb clash same-clash

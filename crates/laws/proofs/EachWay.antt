@@ -1,16 +1,27 @@
 -- Clause 5.1.5: a train that runs either way gets at most one packet of each kind but ETCS-44. Two directions collide just where some train
 -- gets both. Assumes nothing.
 use mathlib.Core.Bool.{Bool, true, false, _&&_, _||_, or-true, or-comm}
-use mathlib.Core.List.{List}
-use mathlib.Core.Path.{_≡_, refl, sym, _∙_}
+use mathlib.Core.List.{List, [], _∷_, _++_}
+use mathlib.Core.Path.{_≡_, refl, sym, ap, _∙_}
 use Prim.Native.Nat.{ℕ, zero, suc, _≤_}
 use native.Mathlib.Omega.{arith}
 use borrow.Author.Tests.{eqb-true, eqb-false, eq-eqb, ne-eqb}
 use lib.Dec.{eqb}
-use Rattle.format.specs.Rules.{clash, fieldPlace, paper}
-use Rattle.format.specs.Telegrams.{Entry, Telegram}
-use Rattle.laws.proofs.Pairs.{PacketIn, Order, serves, packets-ordered}
+use Rattle.format.specs.Fields.{Field, NID-PACKET, Q-DIR, L-PACKET, END}
+use Rattle.format.specs.Packets.{Items}
+use Rattle.format.specs.Packets.Items.{end, send}
+use Rattle.format.specs.Rules.{State, Context, Terms, step, next, clash, fieldPlace, paper}
+use Rattle.format.specs.Rules.Next.{go, over}
+use Rattle.format.specs.Telegrams.{Entry, entry, Run, Telegram}
+use Rattle.format.specs.Telegrams.Run.{last, more}
+use Rattle.laws.proofs.Steps.{go-next, over-mark}
+use Rattle.laws.proofs.Points.{holding, Sends}
+use Rattle.laws.proofs.Points.Sends.{nothing, one-more}
+use Rattle.laws.proofs.Headed.{packet-headed}
+use Rattle.laws.proofs.Standing.{apart}
+use Rattle.laws.proofs.Pairs.{PacketIn, Order, serves, packets-ordered, not-empty}
 use Rattle.laws.proofs.Pairs.Order.{same, ahead, behind}
+use Rattle.laws.proofs.Recalled.{sends-awaits, named-begins}
 use Rattle.laws.proofs.Apart.{telegram-apart}
 
 -- ---- the rule of directions
@@ -78,3 +89,45 @@ module _ {es : List Entry} (telegram : Telegram paper es) (id : ℕ) (not-44 : i
 pub one-each-way : {es : List Entry} → Telegram paper es → (way id d e : ℕ) → (id ≡ 44 → ⊥) → (h : PacketIn es id d) (k : PacketIn es id e)
     → serves d way ≡ true → serves e way ≡ true → (h .before ≡ k .before) × (d ≡ e)
 one-each-way t way id d e not-44 h k a b = one-packet t id not-44 h k (served-clash way d e a b)
+
+-- ---- and no packet is left out
+
+module _ (p : Terms) where
+  -- a run's first entry is of the field that is due
+  run-due : {s : State} {es : List Entry} → Run p s es → (f : Field) (r : Items) → s .todo ≡ send f r
+      → (v : ℕ) × ((rest : List Entry) × (es ≡ holding f v ∷ rest))
+  run-due (last {s = s} {v = v} f e) g r i = (v, ([], rw i refl))
+  run-due (more {s = s} {v = v} {es = es} f e w) g r i = (v, (es, rw i refl))
+
+  module _ {es : List Entry} {s : State} {v id : ℕ} (sends : Sends p es s) (is : entry s v ≡ holding NID-PACKET id) where
+    begins-here : s .todo ≡ end
+    begins-here = named-begins es s v (sends-awaits sends) (ap (λ (x : Entry). x .field) is)
+
+    -- the end mark is no packet
+    not-marked : step p s v ≡ over → ⊥
+    not-marked e =
+        let m = over-mark p s v e in
+        apart END NID-PACKET refl (rw (m .0, m .1) at (ap (λ (x : Entry). x .field) is))
+
+    -- a packet goes on with its Q_DIR
+    headed : (t : Items) (c : Context) → step p s v ≡ go t c → (r : Items) × (t ≡ send Q-DIR r)
+    unfolding next
+    headed t c e = let h = packet-headed v t (rw begins-here at (go-next p s v t c e)) in (send L-PACKET (h .rest), h .is)
+
+  directed-on : {es : List Entry} {s : State} {rest : List Entry} (id : ℕ) (b a : List Entry) → Sends p es s → Run p s rest
+      → rest ≡ b ++ holding NID-PACKET id ∷ a → (dir : ℕ) × ((after : List Entry) × (a ≡ holding Q-DIR dir ∷ after))
+  directed-on id [] a h (last {s = s} {v = v} f e) i = let is : entry s v ≡ holding NID-PACKET id = cc in absurd (not-marked h is e)
+  directed-on id [] a h (more {s = s} {v = v} {t = t} {c = c} f e w) i =
+      let is : entry s v ≡ holding NID-PACKET id = cc in
+      let d = headed h is t c e in
+      let r = run-due w Q-DIR (d .0) (d .1) in
+      (r .0, (r .1 .0, cc (r .1 .1)))
+  directed-on id (x ∷ b) a h (last {s = s} {v = v} f e) i = not-empty b (holding NID-PACKET id) a (cc)
+  directed-on id (x ∷ b) a h (more {v = v} f e w) i = directed-on id b a (one-more v h f e) w (cc)
+
+-- every NID_PACKET of a telegram begins a packet: its Q_DIR stands right behind it
+pub every-packet : {p : Terms} {es : List Entry} → Telegram p es → (id : ℕ) (b a : List Entry) → es ≡ b ++ holding NID-PACKET id ∷ a
+    → (dir : ℕ) × ((h : PacketIn es id dir) × (h .before ≡ b))
+every-packet {p} t id b a i =
+    let d = directed-on p id b a nothing t i in
+    (d .0, (record { before = b; after = d .1 .0; parts = i ∙ ap (λ (l : List Entry). b ++ holding NID-PACKET id ∷ l) (d .1 .1) }, refl))

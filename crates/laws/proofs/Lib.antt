@@ -40,4 +40,5 @@ pub mod EachWay
 pub mod Stricter
 pub mod Mended
 pub mod StillRefused
+pub mod Changed
 pub mod BothWays

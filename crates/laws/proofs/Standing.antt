@@ -207,7 +207,7 @@ module _ (p : Terms) (c : Context) (at v : ℕ) (u : Items) where
       })
 
   -- from one packet to the next
-  pub mark-apart : find v etcs ≡ some u → eqb v 255 ≡ false
+  mark-apart : find v etcs ≡ some u → eqb v 255 ≡ false
   mark-apart e = ne-eqb v 255 (λ i. let z : _≡_ {A = ℕ} 0 1 = cc mark-unlisted in omega arith)
 
   between-next : (es : List Entry) → c .start ≡ bitCount es → next end v ≡ some u
