@@ -50,7 +50,18 @@ impl Kind {
     }
 }
 
-/// The kinds and directions met so far, a bit each.
+/// The ways that a Q_DIR serves, a bit each. Two packets of one kind collide if they serve one way,
+/// so that 2, which is both ways, collides with every other.
+#[inline(always)]
+fn ways(direction: u64) -> u64 {
+    match direction {
+        0 => 0b01,
+        1 => 0b10,
+        _ => 0b11,
+    }
+}
+
+/// The ways that have been served so far, for each kind.
 #[derive(Default)]
 struct Met(u64);
 
@@ -58,10 +69,10 @@ impl Met {
     /// Whether a packet may come here: ETCS-44 alone may come as often as it likes.
     #[inline(always)]
     fn meet(&mut self, kind: Kind, direction: u64) -> bool {
-        let bit = 1 << (4 * kind as u64 + direction);
-        let is_new = self.0 & bit == 0;
-        self.0 |= bit;
-        is_new || kind == Kind::Ctcs
+        let served = ways(direction) << (2 * kind as u64);
+        let is_free = self.0 & served == 0;
+        self.0 |= served;
+        is_free || kind == Kind::Ctcs
     }
 }
 

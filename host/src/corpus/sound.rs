@@ -1,6 +1,6 @@
 //! Telegrams that keep every rule.
 
-use super::draft::{Draft, Mark};
+use super::draft::{Draft, Entry, Mark};
 use super::packets::{packet, IDENTIFIERS};
 use super::random::Random;
 use crate::MAX_BITS;
@@ -85,7 +85,7 @@ pub fn full(random: &mut Random) -> Draft {
 }
 
 /// Fills what is left with one ETCS-46 (31 bits and 3 a level) and one ETCS-72 (92 and 8 a
-/// character), if their identifiers are free and a fitting pair of lengths exists.
+/// character), if they are free and a fitting pair of lengths exists.
 fn fill(random: &mut Random, draft: &mut Draft) {
     let room = MAX_BITS - END_BITS - draft.len();
     let direction = random.below(3);
@@ -94,7 +94,7 @@ fn fill(random: &mut Random, draft: &mut Draft) {
         .map(|more| 31 + 3 * ((levels + more) % 32))
         .find(|taken| room >= taken + 92 && (room - taken - 92).is_multiple_of(8));
     let Some(taken) = taken else { return };
-    if is_used(draft, 46, direction) || is_used(draft, 72, direction) {
+    if !is_free(draft, 46, direction) || !is_free(draft, 72, direction) {
         return;
     }
     head(draft, 46, direction, taken);
@@ -133,16 +133,9 @@ fn head(draft: &mut Draft, id: u64, direction: u64, length: usize) {
     draft.put(Mark::Length, 13, length as u64);
 }
 
-/// Adds one packet that is no repeat, unless it turns out too long.
+/// Adds one packet that may come here, unless it turns out too long.
 fn add(random: &mut Random, draft: &mut Draft, room: usize, limit: usize) {
-    let id = match random.percent(25) {
-        true => 44,
-        false => random.pick(&IDENTIFIERS),
-    };
-    let direction = random.below(3);
-    if id != 44 && is_used(draft, id, direction) {
-        return;
-    }
+    let (id, direction) = free(random, draft);
     let (before, bits) = (draft.entries.len(), draft.len());
     packet(random, draft, id, direction, limit);
     if draft.len() - bits > room {
@@ -150,12 +143,33 @@ fn add(random: &mut Random, draft: &mut Draft, room: usize, limit: usize) {
     }
 }
 
-/// Whether a packet with this identifier and direction is in the draft.
-pub fn is_used(draft: &Draft, id: u64, direction: u64) -> bool {
+/// The identifier and direction of a packet that may come here. Others are drawn again, as they
+/// would make telegrams of many packets rare.
+fn free(random: &mut Random, draft: &Draft) -> (u64, u64) {
+    loop {
+        let id = match random.percent(25) {
+            true => 44,
+            false => random.pick(&IDENTIFIERS),
+        };
+        let direction = random.below(3);
+        if is_free(draft, id, direction) {
+            return (id, direction);
+        }
+    }
+}
+
+/// Whether a packet with this identifier and direction may still come: ETCS-44 always may.
+pub fn is_free(draft: &Draft, id: u64, direction: u64) -> bool {
     let mut pairs = draft.entries.windows(2);
-    pairs.any(|pair| {
-        pair[0].mark == Mark::Identifier && pair[0].value == id && pair[1].value == direction
-    })
+    let collides = |pair: &[Entry]| {
+        pair[0].mark == Mark::Identifier && pair[0].value == id && collide(pair[1].value, direction)
+    };
+    id == 44 || !pairs.any(collides)
+}
+
+/// Whether two packets of one kind with these directions are one too many.
+fn collide(one: u64, other: u64) -> bool {
+    one == other || one == 2 || other == 2
 }
 
 /// Adds the end mark.

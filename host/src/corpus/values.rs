@@ -3,7 +3,7 @@
 use super::damage::{repeated, trailed, upset_one};
 use super::draft::{Draft, Mark};
 use super::random::Random;
-use super::sound::{end, header, sound};
+use super::sound::{end, header, is_free, sound};
 use crate::corpus::packets::{packet, IDENTIFIERS};
 
 /// The next list of values.
@@ -82,15 +82,11 @@ pub fn too_long(random: &mut Random) -> Draft {
         packet(random, &mut draft, 72, direction, 92 + 8 * characters);
         return end(draft);
     }
-    let mut directions = [0; 256];
     while draft.len() <= 830 {
-        let id = random.pick(&IDENTIFIERS);
-        if id != 44 && directions[id as usize] > 2 {
-            continue;
+        let (id, direction) = (random.pick(&IDENTIFIERS), random.below(3));
+        if is_free(&draft, id, direction) {
+            packet(random, &mut draft, id, direction, 400);
         }
-        let direction = directions[id as usize] % 3;
-        directions[id as usize] += 1;
-        packet(random, &mut draft, id, direction, 400);
     }
     end(draft)
 }
