@@ -67,7 +67,7 @@ impl Corpus {
 
 /// A sound telegram with one thing wrong in its fields.
 fn by_field(random: &mut Random) -> Telegram {
-    let mut draft = match random.below(12) {
+    let mut draft = match random.below(13) {
         0 => upset_one(random, Mark::Header),
         1 => upset_one(random, Mark::Identifier),
         2 => upset_one(random, Mark::InnerIdentifier),
@@ -80,7 +80,7 @@ fn by_field(random: &mut Random) -> Telegram {
             let mark = random.pick(&[Mark::Ruled, Mark::Ruled, Mark::Scale]);
             upset_one(random, mark)
         }
-        9 | 10 => repeated(random),
+        9..=11 => repeated(random),
         _ => trailed(random),
     };
     if random.percent(15) {

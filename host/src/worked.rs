@@ -110,10 +110,15 @@ pub fn text(length: u64, scale: u64, distances: [u64; 2], characters: u64) -> Ve
     etcs(72, 1, length, &[&front[..], &back, &words].concat())
 }
 
+/// An ETCS-44 with a CTCS-5 in a direction.
+pub fn absolute_stop(direction: u64) -> Vec<Cell> {
+    ctcs(5, direction, [25, 48], &[(1, 0)])
+}
+
 /// The stop telegram: ETCS-44 with CTCS-5, ETCS-132, ETCS-137.
 pub fn stop() -> Draft {
     telegram(&[
-        ctcs(5, 1, [25, 48], &[(1, 0)]),
+        absolute_stop(1),
         etcs(132, 1, 24, &[(1, 0)]),
         etcs(137, 1, 24, &[(1, 1)]),
     ])
@@ -143,6 +148,17 @@ pub fn position(scale: u64, position: u64) -> Vec<Cell> {
 /// An ETCS-132 in a direction.
 pub fn danger(direction: u64) -> Vec<Cell> {
     etcs(132, direction, 24, &[(1, 1)])
+}
+
+/// An ETCS-21 with N_ITER 0 in a direction.
+pub fn gradients(direction: u64) -> Vec<Cell> {
+    let rest = [(2, 1), (15, 205), (1, 1), (8, 5), (5, 0)];
+    etcs(21, direction, 54, &rest)
+}
+
+/// Two packets of one kind, in every pair of directions.
+fn pairs(packet: fn(u64) -> Vec<Cell>) -> impl Iterator<Item = Draft> {
+    (0..9).map(move |pair| telegram(&[packet(pair / 3), packet(pair % 3)]))
 }
 
 /// Every worked case that a list of values or a string of bits can put, in order.
@@ -180,10 +196,9 @@ pub fn cases() -> Vec<Draft> {
         text(164, 2, [5, 32767], 9),
     ];
     cases.extend(alone.map(|packet| telegram(&[packet])));
-    cases.extend([
-        stop(),
-        telegram(&[danger(1), danger(1)]),
-        telegram(&[danger(0), danger(1)]),
-    ]);
+    cases.push(stop());
+    cases.extend(pairs(danger));
+    cases.extend(pairs(absolute_stop));
+    cases.push(telegram(&[gradients(1), gradients(2)]));
     cases
 }

@@ -38,7 +38,8 @@ pub fn upset_any(random: &mut Random, draft: &mut Draft) {
     upset(random, draft, entry.mark);
 }
 
-/// A telegram with a packet that comes twice, or another with its identifier and direction.
+/// A telegram with a packet that comes twice, or another with its identifier in any direction,
+/// which may be the one that is still free.
 pub fn repeated(random: &mut Random) -> Draft {
     let draft = sound_with(random, Mark::Length);
     let packets = draft.marked(Mark::Identifier);
@@ -47,12 +48,12 @@ pub fn repeated(random: &mut Random) -> Draft {
     repeated.truncate(*last);
     let chosen = random.index(others.len());
     let from = others[chosen];
-    if random.percent(50) {
+    if random.percent(20) {
         for entry in &draft.entries[from..packets[chosen + 1]] {
             repeated.put(entry.mark, entry.width, entry.value);
         }
     } else {
-        let (id, direction) = (draft.entries[from].value, draft.entries[from + 1].value);
+        let (id, direction) = (draft.entries[from].value, random.below(3));
         packet(random, &mut repeated, id, direction, 100);
     }
     end(repeated)

@@ -8,7 +8,7 @@ use crate::corpus::packets::{packet, IDENTIFIERS};
 
 /// The next list of values.
 pub fn values(random: &mut Random) -> Vec<u64> {
-    let draft = match random.below(20) {
+    let draft = match random.below(21) {
         0..=4 => sound(random),
         5 => upset_one(random, Mark::Header),
         6 => upset_one(random, Mark::Identifier),
@@ -22,9 +22,9 @@ pub fn values(random: &mut Random) -> Vec<u64> {
             let mark = random.pick(&[Mark::Ruled, Mark::Ruled, Mark::Scale]);
             upset_one(random, mark)
         }
-        14 => repeated(random),
-        15 => trailed(random),
-        16 => too_long(random),
+        14 | 15 => repeated(random),
+        16 => trailed(random),
+        17 => too_long(random),
         _ => return reshaped(random),
     };
     draft.values()

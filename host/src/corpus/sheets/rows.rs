@@ -2,7 +2,8 @@
 
 use super::{any_row, cells, lines};
 use crate::corpus::random::Random;
-use crate::field::{END, NID_PACKET};
+use crate::field::{END, NID_PACKET, Q_DIR};
+use crate::sheet::Row;
 use crate::MAX_VALUES;
 
 pub(super) fn damaged(random: &mut Random, text: &[u8]) -> Vec<u8> {
@@ -46,7 +47,7 @@ fn starts(lines: &[Vec<u8>]) -> Vec<usize> {
         .collect()
 }
 
-/// A packet that is dropped, doubled, or doubled before the end mark.
+/// A packet that is dropped, doubled, or doubled before the end mark, perhaps for another way.
 fn packets_moved(random: &mut Random, lines: &mut Vec<Vec<u8>>) {
     let starts = starts(lines);
     let Some(packets @ 1..) = starts.len().checked_sub(1) else {
@@ -54,7 +55,10 @@ fn packets_moved(random: &mut Random, lines: &mut Vec<Vec<u8>>) {
     };
     let packet = random.index(packets);
     let (from, to) = (starts[packet], starts[packet + 1]);
-    let rows = lines[from..to].to_vec();
+    let mut rows = lines[from..to].to_vec();
+    if random.percent(60) {
+        turn(random, &mut rows);
+    }
     match random.below(4) {
         0 => {
             lines.drain(from..to);
@@ -66,6 +70,15 @@ fn packets_moved(random: &mut Random, lines: &mut Vec<Vec<u8>>) {
             let end = starts[packets];
             lines.splice(end..end, rows);
         }
+    }
+}
+
+/// Gives a packet any direction, and the CTCS packet inside the same.
+fn turn(random: &mut Random, rows: &mut [Vec<u8>]) {
+    let (field, value) = (Q_DIR, random.below(3));
+    let name = [field.name.as_bytes(), b","].concat();
+    for row in rows.iter_mut().filter(|row| row.starts_with(&name)) {
+        *row = Row { field, value }.text().into_bytes();
     }
 }
 
