@@ -1,5 +1,6 @@
 //! All tests from outside, as one program, since each one takes long to link.
 
+mod directions;
 mod places;
 mod programs;
 mod properties;

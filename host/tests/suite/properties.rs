@@ -1,12 +1,16 @@
 //! What holds over whole corpora.
 
+use crate::directions::PAIRS;
+use crate::refusals::both;
+use plain::corpus::damage::repeated;
 use plain::corpus::draft::{pack, Draft, Entry, Mark};
 use plain::corpus::random::Random;
 use plain::corpus::sound::{full, sound};
 use plain::corpus::values::values;
 use plain::corpus::Corpus;
+use plain::sheet::export;
 use plain::{check, normalise, read, write, MAX_BITS, MAX_BYTES, MAX_VALUES};
-use std::collections::BTreeSet;
+use std::collections::{BTreeMap, BTreeSet};
 
 #[test]
 fn sound_drafts_are_read_and_written_as_drafted() {
@@ -111,6 +115,69 @@ fn same_but_for_distances(bytes: &[u8], n: u64, out: &[u8]) {
     let mut twice = [0; MAX_BYTES];
     assert_eq!(normalise(normal, n, &mut twice), Ok(()));
     assert_eq!(twice[..bytes.len()], *normal);
+}
+
+/// The NID_PACKET and Q_DIR of the outer packets of an accepted telegram, by the names in its sheet.
+fn outer_packets(sheet: &[u8]) -> Vec<(u64, u64)> {
+    let text = std::str::from_utf8(sheet).expect("text");
+    let rows: Vec<&str> = text.lines().collect();
+    let value = |row: &str, name| row.strip_prefix(name)?.parse().ok();
+    let heads = rows.windows(2).filter_map(|pair| {
+        let id = value(pair[0], "NID_PACKET,8,")?;
+        Some((id, value(pair[1], "Q_DIR,2,").expect("a direction")))
+    });
+    heads.collect()
+}
+
+#[test]
+fn a_train_gets_no_two_packets_of_a_kind_but_etcs_44() {
+    let mut corpus = Corpus::new(17);
+    let mut with_pairs = 0;
+    for _ in 0..100_000 {
+        let telegram = corpus.telegram();
+        let Ok(sheet) = export(&telegram.bytes, telegram.n) else {
+            continue;
+        };
+        let mut packets = outer_packets(&sheet);
+        packets.retain(|&(id, _)| id != 44);
+        for way in [0, 1] {
+            let serves = |direction: u64| direction == way || direction == 2;
+            let got = packets.iter().filter(|&&(_, direction)| serves(direction));
+            let kinds: BTreeSet<u64> = got.clone().map(|&(id, _)| id).collect();
+            assert_eq!(got.count(), kinds.len(), "{packets:?}");
+        }
+        let kinds: BTreeSet<u64> = packets.iter().map(|&(id, _)| id).collect();
+        with_pairs += usize::from(kinds.len() < packets.len());
+    }
+    assert!(with_pairs > 1000, "{with_pairs}");
+}
+
+#[test]
+fn one_more_packet_of_a_kind_is_refused_unless_its_way_is_free() {
+    let mut random = Random::new(34);
+    let mut counts = BTreeMap::new();
+    for _ in 0..50_000 {
+        let draft = repeated(&mut random);
+        let heads = draft.marked(Mark::Direction);
+        let (&last, others) = heads.split_last().expect("two packets");
+        let head = |at: &usize| (draft.entries[at - 1].value, draft.entries[*at].value);
+        let (id, later) = head(&last);
+        if draft.len() > MAX_BITS {
+            continue;
+        }
+        let mut earlier = others.iter().map(head).filter(|&(other, _)| other == id);
+        let may_come = earlier.all(|(_, earlier)| PAIRS.contains(&(earlier, later, true)));
+        match id == 44 || may_come {
+            true => both(&draft, 0, 0),
+            false => both(&draft, 10, draft.start(last) as u64),
+        }
+        *counts.entry((id == 44, may_come, later)).or_insert(0) += 1;
+    }
+    // Of ETCS-44 or not, in any direction, one that is free or not; 2 is never free.
+    assert!(
+        counts.len() == 10 && counts.values().all(|&count| count > 500),
+        "{counts:?}"
+    );
 }
 
 #[test]

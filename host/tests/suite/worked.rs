@@ -185,4 +185,6 @@ fn repeats() {
     assert_eq!(accepted(&telegram(&[danger(0), danger(1)])), 106);
     let twice = [reverse_area(1, 1, 1), reverse_area(1, 1, 1)];
     assert_eq!(accepted(&telegram(&twice)), 58 + 158);
+    // Two gradient profiles for a train that runs forward: the second is at bit 104.
+    refused(&telegram(&[gradients(1), gradients(2)]), 10, 112);
 }
