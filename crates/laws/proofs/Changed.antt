@@ -3,12 +3,12 @@
 use mathlib.Core.Bool.{Bool, true}
 use mathlib.Core.List.{List}
 use mathlib.Core.Logic.{_↔_, _⊎_, inl, inr, ⊎-elim}
-use mathlib.Core.Path.{_≡_, sym, ap, _∙_}
+use mathlib.Core.Path.{_≡_, ap, _∙_}
 use Prim.Native.Nat.{ℕ, _≤_}
 use native.Mathlib.Omega.{arith}
 use lib.ListN.{length}
 use Rattle.bits.specs.Bits.{Below}
-use Rattle.format.specs.Rules.{State, begun}
+use Rattle.format.specs.Rules.{State, begun, fieldPlace}
 use Rattle.format.specs.Telegrams.{Entry, Taken, Result, read, write, all}
 use Rattle.format.specs.Telegrams.Result.{accepted, refused}
 use Rattle.format.specs.declared.Kind.the-variants.{Repeated}
@@ -18,7 +18,6 @@ use Rattle.laws.proofs.Pairs.{Pair}
 use Rattle.laws.proofs.Apart.{telegram-apart}
 use Rattle.laws.proofs.Mended.{directing, repeatedAt, Turned, still-accepted, mended}
 use Rattle.laws.proofs.StillRefused.{Reached, read-still, write-still}
-use Rattle.format.specs.Rules as rules
 
 -- a refusal as 10, at the Q_DIR that makes the first pair
 pub record AtFirst (collide : ℕ → ℕ → Bool) (es : List Entry) (r : Refusal) : Type 0 where
@@ -50,7 +49,7 @@ module _ (weak strong : ℕ → ℕ → Bool) (implies : (d e : ℕ) → weak d 
     accepts-just : (es : List Entry) → (now ≡ accepted es) ↔ ((before ≡ accepted es) × (Pair strong es → ⊥))
     accepts-just es = (
       λ e. let h = is .accepts es .0 e in
-          (was .accepts es .1 (still-accepted weak strong implies (h .0), h .1), telegram-apart rules.fieldPlace strong (h .0)),
+          (was .accepts es .1 (still-accepted weak strong implies (h .0), h .1), telegram-apart fieldPlace strong (h .0)),
       λ h. let w = was .accepts es .0 (h .0) in
           ⊎-elim (λ t. is .accepts es .1 (t .0, w .1)) (λ t. absurd (h .1 (t .pair))) (mended weak strong implies (w .0)),
     )

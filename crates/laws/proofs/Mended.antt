@@ -3,23 +3,21 @@
 -- Assumes nothing.
 use mathlib.Core.Bool.{Bool, true, false, _&&_, _||_, or-true}
 use mathlib.Core.List.{List, [], _∷_, _++_, append-assoc}
-use mathlib.Core.Logic.{_↔_, _⊎_, inl, inr, ⊎-elim}
+use mathlib.Core.Logic.{_⊎_, inl, inr, ⊎-elim}
 use mathlib.Core.Path.{_≡_, refl, sym, ap, _∙_, subst}
 use Prim.Native.Nat.{ℕ, _≤_}
 use native.Mathlib.Omega.{arith}
 use lib.Dec.{eqb}
 use lib.ListN.{length}
-use Rattle.bits.specs.Bits.{Below}
 use Rattle.format.specs.Fields.{NID-PACKET}
 use Rattle.format.specs.Rules.{State, Terms, Earlier, begun, among, collidesBy, fieldPlace}
-use Rattle.format.specs.Telegrams.{Entry, entry, Taken, Result, read, write, fromBits, fromValues, bitsIn, valuesIn, all, bits, values, bitCount, Telegram}
+use Rattle.format.specs.Telegrams.{Entry, entry, Taken, read, write, fromBits, fromValues, bitsIn, valuesIn, all, bits, values, bitCount, Telegram}
 use Rattle.format.specs.Telegrams.Result.{accepted, refused}
 use Rattle.format.specs.declared.Kind.the-variants.{Repeated}
 use Rattle.format.specs.declared.Refusal.{Refusal}
 use Rattle.laws.proofs.Sources.{Source, Sent, Listed, from-bits, from-values}
 use Rattle.laws.proofs.Round.{all-append}
 use Rattle.laws.proofs.Demand2.{below-bits, room}
-use Rattle.laws.proofs.Refused.{Decides, read-decides, write-decides}
 use Rattle.laws.proofs.Points.{holding, Pointed}
 use Rattle.laws.proofs.Points.Points.{breaking}
 use Rattle.laws.proofs.Offending.{offends}
@@ -130,7 +128,3 @@ module _ (weak strong : ℕ → ℕ → Bool) (implies : (d e : ℕ) → weak d 
       let n = room old t in
       ⊎-elim (λ r. inl (r, telegram-apart fieldPlace strong r)) (λ h. inr (halted-turned strong h (omega arith)))
       (accepted-or-halted old new stricter t)
-
-  -- so what was accepted and has a pair is refused there
-  pub pair-turned : {es : List Entry} → Telegram old es → Pair strong es → Turned strong es
-  pair-turned t k = ⊎-elim (λ r. absurd (r .1 k)) (λ h. h) (mended t)

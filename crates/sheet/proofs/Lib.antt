@@ -14,4 +14,5 @@ pub mod Back
 pub mod ThereAndBack
 pub mod Pointing
 pub mod Placing
+pub mod Changing
 pub mod Once

@@ -34,6 +34,7 @@ pub mod Writing
 pub mod Normalising
 pub mod Answers
 pub mod Pointing
+pub mod Changing
 pub mod Accepting
 pub mod Placing
 pub mod Once

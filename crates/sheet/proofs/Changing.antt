@@ -1,0 +1,92 @@
+-- What a stricter rule of directions changes in the answers of export and import: what was accepted is refused just where it has a pair.
+-- Assumes nothing.
+use mathlib.Core.Bool.{Bool, true, false, cond}
+use mathlib.Core.List.{List}
+use mathlib.Core.Logic.{_↔_}
+use mathlib.Core.Option.{Option, some, none}
+use mathlib.Core.Path.{_≡_, refl}
+use Prim.Native.Nat.{ℕ}
+use native.Mathlib.Omega.{arith}
+use lib.Dec.{leb}
+use Rattle.format.specs.Telegrams.{Entry, Result, values}
+use Rattle.format.specs.Telegrams.Result.{accepted, refused}
+use Rattle.format.specs.declared.Kind.the-variants.{Room}
+use Rattle.format.specs.declared.Refusal.{Refusal}
+use Rattle.laws.proofs.Pairs.{Pair}
+use Rattle.laws.proofs.Mended.{directing}
+use Rattle.laws.proofs.Changed.{Changed, write-changed}
+use Rattle.states.proofs.Changing.{tested-changed, check-changed}
+use Rattle.states.specs.Labels.{numbers}
+use Rattle.sheet.specs.Reading.{Rows, sheetIn}
+use Rattle.sheet.specs.Reading.Rows.{rows, bad}
+use Rattle.sheet.specs.Sheets.{exported, Imported, otherName, named, judged, onSheet, imported, importInto}
+use Rattle.sheet.specs.Sheets.Imported.{taken, refusedBy}
+
+-- an import before, and now by the stricter rule
+pub record Changed-import (strong : ℕ → ℕ → Bool) (before now : Imported) : Type 0 where
+  -- just what was taken and has no pair is taken now
+  pub takes : (es : List Entry) → (now ≡ taken es) ↔ ((before ≡ taken es) × (Pair strong es → ⊥))
+  -- what was taken is refused now just where it has a pair
+  pub turns : (es : List Entry) → before ≡ taken es → ((r : Refusal) × (now ≡ refusedBy r)) ↔ Pair strong es
+
+-- ---- the value column
+
+-- what a sheet's rows are judged as is what the writer accepts, under the names that are due
+module _ (rs : List Entry) where
+  taken-is : (a : Result) (es : List Entry) → judged rs a ≡ taken es → (a ≡ accepted es) × (named (otherName 0 (numbers rs) (numbers es)) es ≡ taken es)
+  taken-is (refused r) es e = let z : _≡_ {A = ℕ} 0 1 = cc in absurd (omega arith)
+  taken-is (accepted fs) es e = by-names (otherName 0 (numbers rs) (numbers fs)) refl e
+    where
+      by-names : (o : Option ℕ) → otherName 0 (numbers rs) (numbers fs) ≡ o → named o fs ≡ taken es
+          → (accepted fs ≡ accepted es) × (named (otherName 0 (numbers rs) (numbers es)) es ≡ taken es)
+      by-names none i h = let j : fs ≡ es = cc in (cc, rw (← j, i))
+      by-names (some k) i h = let z : _≡_ {A = ℕ} 0 1 = cc in absurd (omega arith)
+
+  refused-is : (a : Result) (r : Refusal) → judged rs a ≡ refusedBy r → a ≡ refused r
+  refused-is (refused q) r e = cc
+  refused-is (accepted es) r e = by-names (otherName 0 (numbers rs) (numbers es)) e
+    where
+      by-names : (o : Option ℕ) → named o es ≡ refusedBy r → accepted es ≡ refused r
+      by-names none h = cc
+      by-names (some k) h = cc
+
+  judged-changed : {strong : ℕ → ℕ → Bool} {a b : Result} → Changed strong a b → Changed-import strong (judged rs a) (judged rs b)
+  judged-changed {strong} {a} {b} c =
+      record {
+        takes = λ es. (
+          λ e. let h = taken-is b es e in let w = c .accepts es .0 (h .0) in (rw (w .0) (h .1), w .1),
+          λ e. let h = taken-is a es (e .0) in rw (c .accepts es .1 (h .0, e .1)) (h .1),
+        );
+        turns = λ es e. let h = taken-is a es e in (
+          λ r. c .turns es (h .0) .0 (r .0, refused-is b (r .0) (r .1)),
+          λ k. let r = c .turns es (h .0) .1 k in (r .0, rw (r .1)),
+        );
+      }
+
+-- ---- export and import
+
+-- what is not taken before is not taken now
+same-changed : (strong : ℕ → ℕ → Bool) {a : Imported} → ((es : List Entry) → a ≡ taken es → ⊥) → Changed-import strong a a
+same-changed strong never =
+    record {
+      takes = λ es. (λ e. absurd (never es e), λ h. h .0);
+      turns = λ es e. absurd (never es e);
+    }
+
+module _ (weak strong : ℕ → ℕ → Bool) (implies : (d e : ℕ) → weak d e ≡ true → strong d e ≡ true) where
+  pub export-changed : (s : List ℕ) (n room : ℕ) → Changed strong (exported (directing weak) s n room) (exported (directing strong) s n room)
+  unfolding exported
+  export-changed s n room = tested-changed (leb 65536 room) Room (λ i. check-changed weak strong implies s n)
+
+  rows-changed : (r : Rows) → Changed-import strong (onSheet (directing weak) r) (onSheet (directing strong) r)
+  rows-changed (bad k) = same-changed strong (λ es e. let z : _≡_ {A = ℕ} 0 1 = cc in omega arith)
+  rows-changed (rows rs) = judged-changed rs (write-changed weak strong implies (values rs))
+
+  by-room : (test : Bool) (r : Refusal) {a b : Imported} → Changed-import strong a b
+      → Changed-import strong (cond test a (refusedBy r)) (cond test b (refusedBy r))
+  by-room true r h = h
+  by-room false r h = same-changed strong (λ es e. let z : _≡_ {A = ℕ} 0 1 = cc in omega arith)
+
+  pub import-changed : (text : List ℕ) (room : ℕ) → Changed-import strong (importInto (directing weak) text room) (importInto (directing strong) text room)
+  unfolding importInto imported
+  import-changed text room = by-room (leb 104 room) (record { kind = Room; place = 0 }) (rows-changed (sheetIn text))
