@@ -65,7 +65,7 @@ impl Corpus {
     }
 }
 
-/// A sound telegram with one thing wrong in its fields.
+/// A sound telegram with one thing changed in its fields, which is mostly wrong then.
 fn by_field(random: &mut Random) -> Telegram {
     let mut draft = match random.below(13) {
         0 => upset_one(random, Mark::Header),

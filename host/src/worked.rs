@@ -150,6 +150,11 @@ pub fn danger(direction: u64) -> Vec<Cell> {
     etcs(132, direction, 24, &[(1, 1)])
 }
 
+/// An ETCS-137 in a direction.
+pub fn stop_in(direction: u64) -> Vec<Cell> {
+    etcs(137, direction, 24, &[(1, 0)])
+}
+
 /// An ETCS-21 with N_ITER 0 in a direction.
 pub fn gradients(direction: u64) -> Vec<Cell> {
     let rest = [(2, 1), (15, 205), (1, 1), (8, 5), (5, 0)];

@@ -1,20 +1,24 @@
 -- What a stricter rule of directions changes in an answer, for reading and writing alike: what was accepted and has no pair is accepted, what
 -- was accepted and has one is refused as 10 at its first, and all else stays refused. Assumes nothing.
 use mathlib.Core.Bool.{Bool, true}
-use mathlib.Core.List.{List}
+use mathlib.Core.List.{List, [], _∷_}
 use mathlib.Core.Logic.{_↔_, _⊎_, inl, inr, ⊎-elim}
-use mathlib.Core.Path.{_≡_, ap, _∙_}
-use Prim.Native.Nat.{ℕ, _≤_}
+use mathlib.Core.Path.{_≡_, sym, ap, _∙_, subst}
+use Prim.Native.Nat.{ℕ, _+_, _≤_}
 use native.Mathlib.Omega.{arith}
 use lib.ListN.{length}
 use Rattle.bits.specs.Bits.{Below}
+use Rattle.format.specs.Fields.{NID-PACKET}
 use Rattle.format.specs.Rules.{State, begun, fieldPlace}
-use Rattle.format.specs.Telegrams.{Entry, Taken, Result, read, write, all}
+use Rattle.format.specs.Telegrams.{Entry, Taken, Result, read, write, all, bitCount}
 use Rattle.format.specs.Telegrams.Result.{accepted, refused}
 use Rattle.format.specs.declared.Kind.the-variants.{Repeated}
 use Rattle.format.specs.declared.Refusal.{Refusal}
 use Rattle.laws.proofs.Refused.{Decides, read-decides, write-decides}
-use Rattle.laws.proofs.Pairs.{Pair}
+use Rattle.laws.proofs.Tile.{bitCount-append}
+use Rattle.laws.proofs.Points.{holding}
+use Rattle.laws.proofs.Pairs.{PacketIn, Met, Pair, Order, packets-ordered}
+use Rattle.laws.proofs.Pairs.Order.{same, ahead, behind}
 use Rattle.laws.proofs.Apart.{telegram-apart}
 use Rattle.laws.proofs.Mended.{directing, repeatedAt, Turned, still-accepted, mended}
 use Rattle.laws.proofs.StillRefused.{Reached, read-still, write-still}
@@ -24,6 +28,34 @@ pub record AtFirst (collide : ℕ → ℕ → Bool) (es : List Entry) (r : Refus
   pub pair : Pair collide es
   pub first : Pair collide (pair .later .before) → ⊥
   pub is : r ≡ repeatedAt pair
+
+-- the later packet of one pair does not stand before that of another, if none does
+not-ahead : {collide : ℕ → ℕ → Bool} {es : List Entry} (h k : Pair collide es) → (Pair collide (k .later .before) → ⊥)
+    → (x : PacketIn (k .later .before) (h .id) (h .dir)) → x .before ≡ h .later .before → ⊥
+not-ahead {collide} h k none x i =
+    none
+    (record {
+      id = h .id;
+      dir = h .dir;
+      later = x;
+      not-44 = h .not-44;
+      earlier = subst (λ (l : List Entry). Met collide l (h .id) (h .dir)) (sym i) (h .earlier);
+    })
+
+-- so there is one first pair, by its later packet, and one such refusal
+pub one-first : {collide : ℕ → ℕ → Bool} {es : List Entry} {r q : Refusal} → AtFirst collide es r → AtFirst collide es q → r ≡ q
+one-first {r = r} {q = q} h k = by-order (packets-ordered (h .pair .later) (k .pair .later))
+  where
+    by-order : Order (h .pair .later .before) (k .pair .later .before) (h .pair .id) (h .pair .dir) (k .pair .id) (k .pair .dir) → r ≡ q
+    by-order (same i j) =
+        h .is
+        ∙ ap (λ (x : ℕ). record { kind = Repeated; place = x })
+        (bitCount-append (h .pair .later .before) (holding NID-PACKET (h .pair .id) ∷ [])
+        ∙ ap (λ (l : List Entry). bitCount l + (NID-PACKET .width + 0)) i
+        ∙ sym (bitCount-append (k .pair .later .before) (holding NID-PACKET (k .pair .id) ∷ [])))
+        ∙ sym (k .is)
+    by-order (ahead x i) = absurd (not-ahead (h .pair) (k .pair) (k .first) x i)
+    by-order (behind x i) = absurd (not-ahead (k .pair) (h .pair) (h .first) x i)
 
 -- an answer before, and the answer now by the stricter rule
 pub record Changed (strong : ℕ → ℕ → Bool) (before now : Result) : Type 0 where

@@ -82,8 +82,8 @@ module _ {es : List Entry} (telegram : Telegram paper es) (id : ℕ) (not-44 : i
     where
       by-order : Order (h .before) (k .before) id d id e → (h .before ≡ k .before) × (d ≡ e)
       by-order (same i j) = (i, j)
-      by-order (ahead x) = absurd (not-before d e k x (clash-symmetric e d ∙ c))
-      by-order (behind x) = absurd (not-before e d h x c)
+      by-order (ahead x y) = absurd (not-before d e k x (clash-symmetric e d ∙ c))
+      by-order (behind x y) = absurd (not-before e d h x c)
 
 -- "Clause 5.1.5 allows one packet per direction": a train running either way gets at most one packet of each kind but ETCS-44
 pub one-each-way : {es : List Entry} → Telegram paper es → (way id d e : ℕ) → (id ≡ 44 → ⊥) → (h : PacketIn es id d) (k : PacketIn es id e)

@@ -57,8 +57,9 @@ module _ (p : Terms) (q r : ℕ) (s : State) (u v : ℕ) (a b : List Entry) (fu 
   spoken-at scales kept hj hk h = let y = scale-named s v u a b hj in cc
   spoken-at scales measures hj hk h = let y = scale-named s v u a b hj in cc
 
-clash : {A : Type 0} {x : Next} {t : Items} {c : Context} → x ≡ over → x ≡ go t c → A
-clash h k = let z : _≡_ {A = ℕ} 0 1 = cc in absurd (omega arith)
+-- a value does not lead two ways
+not-two : {A : Type 0} {x : Next} {t : Items} {c : Context} → x ≡ over → x ≡ go t c → A
+not-two h k = let z : _≡_ {A = ℕ} 0 1 = cc in absurd (omega arith)
 
 same-state : {p : Terms} (s : State) {t t2 : Items} {c c2 : Context} {b : List Entry} → go t2 c2 ≡ go t c → Run p (moved s t2 c2) b
     → Run p (moved s t c) b
@@ -72,9 +73,9 @@ unfolding saysUnder
 spoken-run {p} (last {s = s} {v = u} f e) (last {v = v} g d) q r =
     spoken-at p q r s u v [] [] (fair (last f e) .0) (fair (last g d) .0) (λ i q2 r2 h. refl) (view (entry s u) []) (view (entry s v) []) refl refl
 spoken-run {p} (last {s = s} {v = u} f e) (more {v = v} {es = b} g d l) q r =
-    spoken-at p q r s u v [] b (fair (last f e) .0) (fair (more g d l) .0) (λ i. clash (sym i ∙ e) d) (view (entry s u) []) (view (entry s v) b) refl refl
+    spoken-at p q r s u v [] b (fair (last f e) .0) (fair (more g d l) .0) (λ i. not-two (sym i ∙ e) d) (view (entry s u) []) (view (entry s v) b) refl refl
 spoken-run {p} (more {s = s} {v = u} {es = a} f e k) (last {v = v} g d) q r =
-    spoken-at p q r s u v a [] (fair (more f e k) .0) (fair (last g d) .0) (λ i. clash (i ∙ d) e) (view (entry s u) a) (view (entry s v) []) refl refl
+    spoken-at p q r s u v a [] (fair (more f e k) .0) (fair (last g d) .0) (λ i. not-two (i ∙ d) e) (view (entry s u) a) (view (entry s v) []) refl refl
 spoken-run {p} (more {s = s} {v = u} {t = t} {c = c} {es = a} f e k) (more {v = v} {t = t2} {c = c2} {es = b} g d l) q r =
     spoken-at p q r s u v a b (fair (more f e k) .0) (fair (more g d l) .0) (λ i q2 r2 h. spoken-run k (same-state s (sym d ∙ sym i ∙ e) l) q2 r2 h) (view (entry s u) a) (view (entry s v) b) refl refl
 

@@ -131,8 +131,8 @@ pair-before {collide} {es} {e} h never = by-last (packet-newest (h .later))
 -- two packets of one list, by what stands before each: they are one, or the first stands before the second, or the second before the first
 pub data Order (b c : List Entry) (i d j e : ℕ) : Type 0 where
   same : b ≡ c → d ≡ e → Order b c i d j e
-  ahead : PacketIn c i d → Order b c i d j e
-  behind : PacketIn b j e → Order b c i d j e
+  ahead : (h : PacketIn c i d) → h .before ≡ b → Order b c i d j e
+  behind : (h : PacketIn b j e) → h .before ≡ c → Order b c i d j e
 
 -- a packet behind one entry more
 abbrev after-one : {es : List Entry} {i d : ℕ} (x : Entry) → PacketIn es i d → PacketIn (x ∷ es) i d
@@ -141,8 +141,8 @@ after-one x h = record { before = x ∷ h .before; after = h .after; parts = ap 
 -- the same element in front of both
 order-on : {b c : List Entry} {i d j e : ℕ} (x y : Entry) → x ≡ y → Order b c i d j e → Order (x ∷ b) (y ∷ c) i d j e
 order-on x y q (same h k) = same (cc) k
-order-on x y q (ahead h) = ahead (after-one y h)
-order-on x y q (behind h) = behind (after-one x h)
+order-on x y q (ahead h k) = ahead (after-one y h) (cc)
+order-on x y q (behind h k) = behind (after-one x h) (cc)
 
 -- a Q_DIR is no NID_PACKET
 direction-not : {A : Type 0} (v u : ℕ) → holding Q-DIR v ≡ holding NID-PACKET u → A
@@ -155,9 +155,9 @@ ordered [] [] m n i d j e h =
     let q : holding Q-DIR d ≡ holding Q-DIR e = cc in
     same refl (ap (λ (x : Entry). x .value) q)
 ordered [] (y ∷ []) m n i d j e h = direction-not d j (cc)
-ordered [] (y ∷ z ∷ c) m n i d j e h = ahead (record { before = []; after = c; parts = cc })
+ordered [] (y ∷ z ∷ c) m n i d j e h = ahead (record { before = []; after = c; parts = cc }) refl
 ordered (x ∷ []) [] m n i d j e h = direction-not e i (cc)
-ordered (x ∷ w ∷ b) [] m n i d j e h = behind (record { before = []; after = b; parts = cc })
+ordered (x ∷ w ∷ b) [] m n i d j e h = behind (record { before = []; after = b; parts = cc }) refl
 ordered (x ∷ b) (y ∷ c) m n i d j e h = order-on x y (cc) (ordered b c m n i d j e (cc))
 
 -- so of two packets among entries one stands before the other, or they are one

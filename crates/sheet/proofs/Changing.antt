@@ -1,8 +1,8 @@
--- What a stricter rule of directions changes in the answers of export and import: what was accepted is refused just where it has a pair.
--- Assumes nothing.
+-- What a stricter rule of directions changes in the answers of export and import: what was accepted is refused just where it has a pair, as
+-- 10 at its first; and what was refused is refused in the same way, or as 10. Assumes nothing.
 use mathlib.Core.Bool.{Bool, true, false, cond}
 use mathlib.Core.List.{List}
-use mathlib.Core.Logic.{_↔_}
+use mathlib.Core.Logic.{_↔_, _⊎_, inl, inr, ⊎-elim}
 use mathlib.Core.Option.{Option, some, none}
 use mathlib.Core.Path.{_≡_, refl}
 use Prim.Native.Nat.{ℕ}
@@ -10,17 +10,17 @@ use native.Mathlib.Omega.{arith}
 use lib.Dec.{leb}
 use Rattle.format.specs.Telegrams.{Entry, Result, values}
 use Rattle.format.specs.Telegrams.Result.{accepted, refused}
-use Rattle.format.specs.declared.Kind.the-variants.{Room}
+use Rattle.format.specs.declared.Kind.the-variants.{Room, Repeated}
 use Rattle.format.specs.declared.Refusal.{Refusal}
 use Rattle.laws.proofs.Pairs.{Pair}
 use Rattle.laws.proofs.Mended.{directing}
-use Rattle.laws.proofs.Changed.{Changed, write-changed}
+use Rattle.laws.proofs.Changed.{AtFirst, Changed, write-changed}
 use Rattle.states.proofs.Changing.{tested-changed, check-changed}
 use Rattle.states.specs.Labels.{numbers}
 use Rattle.sheet.specs.Reading.{Rows, sheetIn}
 use Rattle.sheet.specs.Reading.Rows.{rows, bad}
 use Rattle.sheet.specs.Sheets.{exported, Imported, otherName, named, judged, onSheet, imported, importInto}
-use Rattle.sheet.specs.Sheets.Imported.{taken, refusedBy}
+use Rattle.sheet.specs.Sheets.Imported.{taken, refusedBy, refusedAt}
 
 -- an import before, and now by the stricter rule
 pub record Changed-import (strong : ℕ → ℕ → Bool) (before now : Imported) : Type 0 where
@@ -28,6 +28,11 @@ pub record Changed-import (strong : ℕ → ℕ → Bool) (before now : Imported
   pub takes : (es : List Entry) → (now ≡ taken es) ↔ ((before ≡ taken es) × (Pair strong es → ⊥))
   -- what was taken is refused now just where it has a pair
   pub turns : (es : List Entry) → before ≡ taken es → ((r : Refusal) × (now ≡ refusedBy r)) ↔ Pair strong es
+  -- and that as 10 at the first
+  pub there : (es : List Entry) (r : Refusal) → before ≡ taken es → now ≡ refusedBy r → AtFirst strong es r
+  -- what is refused now was refused in the same way, or is a 10; what is refused by 20 now was so before, at that row
+  pub still : (r : Refusal) → now ≡ refusedBy r → (before ≡ refusedBy r) ⊎ (r .kind ≡ Repeated)
+  pub still-row : (k : ℕ) → now ≡ refusedAt k → before ≡ refusedAt k
 
 -- ---- the value column
 
@@ -50,6 +55,10 @@ module _ (rs : List Entry) where
       by-names none h = cc
       by-names (some k) h = cc
 
+  row-is : (a : Result) (k : ℕ) → judged rs a ≡ refusedAt k → (es : List Entry) × (a ≡ accepted es)
+  row-is (refused r) k e = let z : _≡_ {A = ℕ} 0 1 = cc in absurd (omega arith)
+  row-is (accepted es) k e = (es, refl)
+
   judged-changed : {strong : ℕ → ℕ → Bool} {a b : Result} → Changed strong a b → Changed-import strong (judged rs a) (judged rs b)
   judged-changed {strong} {a} {b} c =
       record {
@@ -61,6 +70,9 @@ module _ (rs : List Entry) where
           λ r. c .turns es (h .0) .0 (r .0, refused-is b (r .0) (r .1)),
           λ k. let r = c .turns es (h .0) .1 k in (r .0, rw (r .1)),
         );
+        there = λ es r e f. c .there es r (taken-is a es e .0) (refused-is b r f);
+        still = λ r e. ⊎-elim (λ h. inl (rw h)) inr (c .still r (refused-is b r e));
+        still-row = λ k e. let h = row-is b k e in rw (c .accepts (h .0) .0 (h .1) .0) (rw (h .1) at e);
       }
 
 -- ---- export and import
@@ -71,6 +83,9 @@ same-changed strong never =
     record {
       takes = λ es. (λ e. absurd (never es e), λ h. h .0);
       turns = λ es e. absurd (never es e);
+      there = λ es r e. absurd (never es e);
+      still = λ r e. inl e;
+      still-row = λ k e. e;
     }
 
 module _ (weak strong : ℕ → ℕ → Bool) (implies : (d e : ℕ) → weak d e ≡ true → strong d e ≡ true) where

@@ -19,18 +19,18 @@ use Rattle.sheet.proofs.Table.{length-fields}
 use Rattle.sheet.proofs.Fronts.{label-next}
 
 -- two texts that differ where both still go on
-clash : List ℕ → List ℕ → Bool
-clash [] b = false
-clash (x ∷ a) [] = false
-clash (x ∷ a) (y ∷ b) = not (eqb x y) || clash a b
+differ : List ℕ → List ℕ → Bool
+differ [] b = false
+differ (x ∷ a) [] = false
+differ (x ∷ a) (y ∷ b) = not (eqb x y) || differ a b
 
-clash-begins : (a b rest : List ℕ) → clash a b ≡ true → begins a (b ++ rest) ≡ false
-unfolding clash begins
-clash-begins [] b rest e = cc
-clash-begins (x ∷ a) [] rest e = cc
-clash-begins (x ∷ a) (y ∷ b) rest e = by (eqb x y) (clash a b) refl (clash-begins a b rest) e
+differ-begins : (a b rest : List ℕ) → differ a b ≡ true → begins a (b ++ rest) ≡ false
+unfolding differ begins
+differ-begins [] b rest e = cc
+differ-begins (x ∷ a) [] rest e = cc
+differ-begins (x ∷ a) (y ∷ b) rest e = by (eqb x y) (differ a b) refl (differ-begins a b rest) e
   where
-    by : (p q : Bool) → clash a b ≡ q → (clash a b ≡ true → begins a (b ++ rest) ≡ false) → (not p || q) ≡ true → (p && begins a (b ++ rest)) ≡ false
+    by : (p q : Bool) → differ a b ≡ q → (differ a b ≡ true → begins a (b ++ rest) ≡ false) → (not p || q) ≡ true → (p && begins a (b ++ rest)) ≡ false
     by true true x ih z = ih x
     by true false x ih z = cc
     by false q x ih z = refl
@@ -43,19 +43,19 @@ true-is false t = absurd t
 abbrev texts : List (List ℕ)
 texts = map labelText fields
 
-apart : T (every (λ k b. every (λ j a. imp (ltb j k) (clash a b)) 0 texts) 0 texts)
-unfolding labels clash
+apart : T (every (λ k b. every (λ j a. imp (ltb j k) (differ a b)) 0 texts) 0 texts)
+unfolding labels differ
 apart = tt
 
 text-at : (k : ℕ) → getD texts k (labelText END) ≡ labelText (fieldOf k)
 text-at k = List·getD-map labelText fields k END
 
-labels-clash : (j k : ℕ) → j < k → k < 72 → clash (labelText (fieldOf j)) (labelText (fieldOf k)) ≡ true
-labels-clash j k h l =
+labels-differ : (j k : ℕ) → j < k → k < 72 → differ (labelText (fieldOf j)) (labelText (fieldOf k)) ≡ true
+labels-differ j k h l =
     let long : length texts ≡ 72 = length-map fields labelText ∙ length-fields in
-    let row = each (λ i b. every (λ j a. imp (ltb j i) (clash a b)) 0 texts) (labelText END) texts apart k (omega (arith, long)) in
-    let pair = each (λ i a. imp (ltb i k) (clash a (getD texts k (labelText END)))) (labelText END) texts row j (omega (arith, long)) in
-    let is = true-is (clash (getD texts j (labelText END)) (getD texts k (labelText END))) (imp-use (ltb j k) (clash (getD texts j (labelText END)) (getD texts k (labelText END))) pair (lt-ltb j k h)) in
+    let row = each (λ i b. every (λ j a. imp (ltb j i) (differ a b)) 0 texts) (labelText END) texts apart k (omega (arith, long)) in
+    let pair = each (λ i a. imp (ltb i k) (differ a (getD texts k (labelText END)))) (labelText END) texts row j (omega (arith, long)) in
+    let is = true-is (differ (getD texts j (labelText END)) (getD texts k (labelText END))) (imp-use (ltb j k) (differ (getD texts j (labelText END)) (getD texts k (labelText END))) pair (lt-ltb j k h)) in
     rw (text-at j, text-at k) at is
 
 module _ (k : ℕ) (l : k < 72) (rest : List ℕ) where
@@ -64,7 +64,7 @@ module _ (k : ℕ) (l : k < 72) (rest : List ℕ) where
       let here : j ≡ k = sym (add-zero j) ∙ e in
       rw here (label-next (labelText (fieldOf k) ++ rest) k l ∙ rw (begins-front (labelText (fieldOf k)) rest))
   seek (suc d) j e =
-      let no = clash-begins (labelText (fieldOf j)) (labelText (fieldOf k)) rest (labels-clash j k (omega arith) l) in
+      let no = differ-begins (labelText (fieldOf j)) (labelText (fieldOf k)) rest (labels-differ j k (omega arith) l) in
       label-next (labelText (fieldOf k) ++ rest) j (omega arith) ∙ rw no (seek d (j + 1) (omega arith))
 
   -- the label of field k names field k, whatever follows

@@ -15,7 +15,7 @@ past true b c g f = g
 past false b c g f = f g
 
 module _ (i d : ℕ) where
-  -- one of the first n is the packet
+  -- one of the first n collides with the packet
   pub met : (xs : List ℕ) (j n : ℕ) → j < n → j < length xs → (eqb i (getD xs j 0 / 4) && clash d (getD xs j 0 % 4)) ≡ true
       → among clash i d (packetsIn (take n xs)) ≡ true
   unfolding among
@@ -25,7 +25,7 @@ module _ (i d : ℕ) where
   met (x ∷ xs) (suc j) (suc n) p q e =
       rw (met xs j n (le-of-suc-le-suc p) (le-of-suc-le-suc q) e) (or-true (eqb i (x / 4) && clash d (x % 4)))
 
-  -- none of the first j is, nor the next
+  -- none of the first j does, nor the next
   pub unmet : (xs : List ℕ) (j : ℕ) → j < length xs → among clash i d (packetsIn (take j xs)) ≡ false
       → (eqb i (getD xs j 0 / 4) && clash d (getD xs j 0 % 4)) ≡ false → among clash i d (packetsIn (take (suc j) xs)) ≡ false
   unfolding among

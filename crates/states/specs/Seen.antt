@@ -18,7 +18,7 @@ abbrev pub packetsIn : List ℕ → List Earlier
 packetsIn [] = []
 packetsIn (x ∷ xs) = packetIn x ∷ packetsIn xs
 
--- the first n of the array are the packets of a list, whatever their order
+-- a packet collides with one of the first n of the array just where it does with one of the list
 abbrev pub Same : List ℕ → ℕ → List Earlier → Type 0
 Same seen n l = (i d : ℕ) → d < 4 → among clash i d l ≡ among clash i d (packetsIn (take n seen))
 
@@ -47,7 +47,7 @@ pub record Turning (rows seen : List ℕ) (n : ℕ) (s : State) (v : ℕ) : Type
   pub stepping : Stepping rows s v
   pub inside : n < length seen
 
--- one step of document 01's rules, whatever list the array stands for
+-- one step of the rules, whatever list the array stands for
 pub record Passed (seen : List ℕ) (n : ℕ) (s : State) (v : ℕ) (r : Outcome) : Type 0 where
   pub right : (l : List Earlier) → Same seen n l → step paper (view l s) v ≡ nextOf (earlierAfter l s v) r
   pub goes : machine.Kept (s .at + fieldAt (s .todo .node) .width) r

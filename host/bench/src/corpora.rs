@@ -16,7 +16,7 @@ pub struct Corpus {
 
 /// What balise groups send for the functions that the standard's Annex B lists: pairs of NID_PACKET and Q_DIR.
 const FUNCTIONS: [&[(u64, u64)]; 6] = [
-    // a block section: linking both ways, track circuits, gradients, speeds
+    // a block section: linking for each way, track circuits, gradients, speeds
     &[(5, 1), (5, 0), (44, 1), (21, 1), (27, 1)],
     // a home signal: circuits, restrictions, linking, gradients, speeds, track conditions, position
     &[(44, 1), (44, 1), (5, 1), (21, 1), (27, 1), (68, 1), (79, 2)],

@@ -1,6 +1,6 @@
 //! Which directions packets of one kind may have beside one another: reader, writer and sheets.
 
-use crate::refusals::{both, by_bits, by_draft, by_values, stop_in};
+use crate::refusals::{both, by_bits, by_draft, by_values};
 use crate::sheets::{sheet, HEADER_ROWS};
 use plain::corpus::draft::pack;
 use plain::sheet::{export, import, Refused};

@@ -212,11 +212,6 @@ fn number_10_is_tested_at_the_direction() {
         10,
         106,
     );
-    both(&telegram(&[danger(0), danger(1), danger(3)]), 7, 106);
-}
-
-pub fn stop_in(direction: u64) -> Vec<Cell> {
-    etcs(137, direction, 24, &[(1, 0)])
 }
 
 #[test]
