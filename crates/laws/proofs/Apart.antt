@@ -2,14 +2,13 @@
 -- before it, and no pair is ever sent. Assumes nothing.
 use mathlib.Core.Bool.{Bool, true}
 use mathlib.Core.List.{List, [], _∷_, _++_, append-assoc}
-use mathlib.Core.Option.{none}
+use mathlib.Core.Option.{some, none}
 use mathlib.Core.Path.{_≡_, refl, sym, ap, _∙_, subst}
 use Prim.Native.Nat.{ℕ}
 use native.Mathlib.Omega.{arith}
 use lib.Dec.{eqb}
-use Rattle.format.specs.Fields.{NID-PACKET, Q-DIR}
-use Rattle.format.specs.Fields.Rule.{direction}
-use Rattle.format.specs.Rules.{State, Context, Terms, step, field, ruleOf, broken, among, collidesBy}
+use Rattle.format.specs.Fields.{Field, NID-PACKET, Q-DIR}
+use Rattle.format.specs.Rules.{State, Context, Terms, Level, step, field, ruleOf, broken, among, collidesBy}
 use Rattle.format.specs.Rules.Level.{inPacket}
 use Rattle.format.specs.Rules.Next.{over, breaks}
 use Rattle.format.specs.Telegrams.{Entry, entry, bitCount, Run, Telegram}
@@ -17,16 +16,18 @@ use Rattle.format.specs.Telegrams.Run.{last, more}
 use Rattle.format.specs.declared.Kind.{Kind}
 use Rattle.format.specs.declared.Kind.the-variants.{Repeated}
 use Rattle.laws.proofs.Steps.{over-mark}
-use Rattle.laws.proofs.Points.{Sends, holding}
+use Rattle.laws.proofs.Order.{order-repeated}
+use Rattle.laws.proofs.Points.{Sends, Offends, holding}
+use Rattle.laws.proofs.Points.Offends.{packet-direction}
 use Rattle.laws.proofs.Points.Sends.{nothing, one-more}
 use Rattle.laws.proofs.Headed.{named-due}
 use Rattle.laws.proofs.Standing.{apart}
-use Rattle.laws.proofs.Pointed.{sends-at}
-use Rattle.laws.proofs.Pairs.{Met, Pair, laterAt, met-grown, packet-made, pair-before, not-empty}
+use Rattle.laws.proofs.Offending.{offends}
+use Rattle.laws.proofs.Pairs.{Met, Pair, laterAt, met-grown, pair-grown, packet-made, pair-before, not-empty}
 use Rattle.laws.proofs.Awaited.{Awaits}
 use Rattle.laws.proofs.Awaited.Awaits.{begins, directs, goes-by}
-use Rattle.laws.proofs.Recalled.{Recalls, met-before, begins-apart, sends-awaits, sends-recalls}
-use Rattle.laws.proofs.Collided.{collides-is, allowed-apart, repeated-is, go-unbroken, breaks-repeated}
+use Rattle.laws.proofs.Recalled.{Recalls, met-before, begins-apart, sends-stands, sends-awaits, sends-recalls}
+use Rattle.laws.proofs.Collided.{collides-is, allowed-apart, go-unbroken, breaks-repeated}
 
 -- the terms of a rule of directions, wherever their refusals point
 abbrev pub ruled : (Kind → State → ℕ → ℕ) → (ℕ → ℕ → Bool) → Terms
@@ -41,6 +42,10 @@ pub record NewPair (collide : ℕ → ℕ → Bool) (es : List Entry) (e : Entry
 -- it begins where the others end
 pub new-pair-at : {collide : ℕ → ℕ → Bool} {es : List Entry} {e : Entry} (h : NewPair collide es e) → laterAt (h .pair) ≡ bitCount es
 new-pair-at h = ap bitCount (sym (h .ends))
+
+-- what is refused as 10 is the Q_DIR of a packet
+direction-only : {f : Field} {l : Level} → Offends Repeated f l → (f ≡ Q-DIR) × (l ≡ inPacket)
+direction-only packet-direction = (refl, refl)
 
 module _ (place : Kind → State → ℕ → ℕ) (collide : ℕ → ℕ → Bool) where
   abbrev p : Terms
@@ -70,17 +75,19 @@ module _ (place : Kind → State → ℕ → ℕ) (collide : ℕ → ℕ → Boo
   pub repeated-pair : {es : List Entry} {s : State} {v : ℕ} → Sends p es s → step p s v ≡ breaks Repeated → NewPair collide es (entry s v)
   repeated-pair {es} {s} {v} h e = by-due (sends-awaits h)
     where
-      is : (ruleOf (field s .sense) ≡ direction) × ((s .context .level ≡ inPacket) × (collidesBy collide (s .context) v ≡ true))
-      is = repeated-is p (s .context) v (ruleOf (field s .sense)) (breaks-repeated p s v e)
+      is-broken : broken p (s .context) (ruleOf (field s .sense)) v ≡ some Repeated
+      is-broken = breaks-repeated p s v e
+
+      is : (field s ≡ Q-DIR) × (s .context .level ≡ inPacket)
+      is = direction-only (offends p s v Repeated (sends-stands h) is-broken)
+
+      collides : collidesBy collide (s .context) v ≡ true
+      collides = order-repeated p (s .context) v .0 (rw (is .0) at is-broken) .2
 
       by-due : Awaits es s → NewPair collide es (entry s v)
-      by-due (begins t) = let i = rw t at (is .0) in let z : _≡_ {A = ℕ} 0 1 = cc in absurd (omega arith)
-      by-due (directs g f l b n j) = rw (named-due (s .todo) v g ∙ f) (collides-pairs b n v j (sends-recalls h) (is .1 .1))
-      by-due (goes-by g w) = absurd (w .unruled (is .0) (is .1 .0))
-
-  -- and the refusal's field is the later packet's Q_DIR
-  pub repeated-at : {es : List Entry} {s : State} {v : ℕ} → Sends p es s → (h : NewPair collide es (entry s v)) → laterAt (h .pair) ≡ s .at
-  repeated-at h w = new-pair-at w ∙ sym (sends-at h)
+      by-due (begins t) = absurd (apart NID-PACKET Q-DIR refl (rw t at (is .0)))
+      by-due (directs g f l b n j) = rw (named-due (s .todo) v g ∙ f) (collides-pairs b n v j (sends-recalls h) collides)
+      by-due (goes-by g w) = absurd (w .unruled (ap (λ (f : Field). ruleOf (f .sense)) (is .0)) (is .1))
 
   -- ---- no pair is sent
 
@@ -116,6 +123,10 @@ module _ (place : Kind → State → ℕ → ℕ) (collide : ℕ → ℕ → Boo
   sends-apart (one-more {s = s} v {t = t} {c = c} w fits e) h =
       sends-apart w
       (pair-before h (λ f i. pair-broken (h .later .before) (h .id) (h .dir) w (go-unbroken p s v t c e) f i (h .not-44) (h .earlier)))
+
+  -- so a pair that the next entry makes is the first
+  pub new-first : {es : List Entry} {s : State} {e : Entry} → Sends p es s → (w : NewPair collide es e) → Pair collide (w .pair .later .before) → ⊥
+  new-first h w k = sends-apart h (subst (Pair collide) (sym (w .ends)) (pair-grown k (holding NID-PACKET (w .pair .id) ∷ [])))
 
 -- ---- a run, as what was sent and the end mark
 

@@ -1,22 +1,20 @@
--- What a step says of rule 10, for any terms: the only field that breaks it is the Q_DIR of a packet that collides; and terms by which more
--- collides only add such refusals. Assumes nothing.
-use mathlib.Core.Bool.{Bool, true, false, cond, not, _&&_, _||_}
+-- What a step says of rule 10, for any terms; and that terms by which more collides only add such refusals. Assumes nothing.
+use mathlib.Core.Bool.{Bool, true, false, cond, not, _&&_}
 use mathlib.Core.Logic.{_↔_, _⊎_, inl, inr}
 use mathlib.Core.Option.{Option, some, none}
 use mathlib.Core.Path.{_≡_, refl, subst}
-use Prim.Native.Nat.{ℕ}
+use Prim.Native.Nat.{ℕ, _≤_}
 use native.Mathlib.Omega.{arith}
-use borrow.Author.Tests.{eqb-true, eqb-false}
+use borrow.Author.Tests.{eqb-true, eqb-false, leb-true}
 use lib.Dec.{eqb, leb}
 use Rattle.format.specs.Fields.{Rule}
 use Rattle.format.specs.Fields.Rule.{any, packet, user, direction, size, pig, total, radio, within}
-use Rattle.format.specs.Packets.{Items, find, etcs, ctcs}
-use Rattle.format.specs.Rules.{State, Context, Terms, Level, Next, step, field, ruleOf, broken, misdirected, unless, known, radioFrom, among, collidesBy}
-use Rattle.format.specs.Rules as rules
+use Rattle.format.specs.Packets.{Items}
+use Rattle.format.specs.Rules.{State, Context, Terms, Level, Next, step, field, ruleOf, broken, misdirected, unless, among, collidesBy}
 use Rattle.format.specs.Rules.Level.{inHeader, inPacket, inUser}
 use Rattle.format.specs.Rules.Next.{go, breaks}
 use Rattle.format.specs.declared.Kind.{Kind}
-use Rattle.format.specs.declared.Kind.the-variants.{Header, Unknown, Value, Direction, Repeated}
+use Rattle.format.specs.declared.Kind.the-variants.{Value, Repeated}
 use Rattle.laws.proofs.Steps.{Stepped, stepped}
 use Rattle.laws.proofs.Steps.Settled.{on, closed, misfitted}
 use Rattle.laws.proofs.Steps.Stepped.{forbidden, marked, noticed}
@@ -48,42 +46,14 @@ module _ (p : Terms) (c : Context) (v : ℕ) where
       by-tests true false i = refl
       by-tests false b i = cc
 
-  -- no other kind of rule is broken as 10
-  other-kind : {A : Type 0} (b : Bool) (k : Kind) → (k ≡ Repeated → ⊥) → unless b k ≡ some Repeated → A
-  other-kind true k n e = let z : _≡_ {A = ℕ} 0 1 = cc in absurd (omega arith)
-  other-kind false k n e = absurd (n (cc))
-
-  -- a value that a field forbids is refused as 4 or 7
-  level-kind : (l : Level) → rules.forbidden l ≡ Repeated → ⊥
-  level-kind inHeader e = let z : _≡_ {A = ℕ} 0 1 = cc in omega arith
-  level-kind inPacket e = let z : _≡_ {A = ℕ} 0 1 = cc in omega arith
-  level-kind inUser e = let z : _≡_ {A = ℕ} 0 1 = cc in omega arith
-
-  -- a Q_DIR that is refused as 10 stands in a packet that collides
-  direction-repeated : (a : Bool) (l : Level) → cond a (misdirected p c l v) (some Value) ≡ some Repeated
-      → (l ≡ inPacket) × (p .collides c v ≡ true)
-  unfolding misdirected
-  direction-repeated true inHeader e = (cc, cc)
-  direction-repeated true inPacket e = (refl, by-test (p .collides c v) e)
-    where
-      by-test : (b : Bool) → unless (not b) Repeated ≡ some Repeated → b ≡ true
-      by-test true i = refl
-      by-test false i = cc
-  direction-repeated true inUser e = other-kind (eqb v (c .dir)) Direction (λ i. let z : _≡_ {A = ℕ} 0 1 = cc in omega arith) e
-  direction-repeated false l e = (cc, cc)
-
-  -- what is broken as 10 is the rule of a Q_DIR, in a packet that collides
-  pub repeated-is : (r : Rule) → broken p c r v ≡ some Repeated → (r ≡ direction) × ((c .level ≡ inPacket) × (p .collides c v ≡ true))
+  -- and is one of three
+  pub allowed-small : broken p c direction v ≡ none → v ≤ 2
   unfolding broken
-  repeated-is any e = (cc, (cc, cc))
-  repeated-is packet e = other-kind (eqb v 255 || known (find v etcs)) Unknown (λ i. let z : _≡_ {A = ℕ} 0 1 = cc in omega arith) e
-  repeated-is user e = other-kind (known (find v ctcs)) Unknown (λ i. let z : _≡_ {A = ℕ} 0 1 = cc in omega arith) e
-  repeated-is direction e = (refl, direction-repeated (leb v 2) (c .level) e)
-  repeated-is size e = (cc, (cc, cc))
-  repeated-is pig e = (cc, (cc, cc))
-  repeated-is total e = other-kind (leb (c .pig) v) Header (λ i. let z : _≡_ {A = ℕ} 0 1 = cc in omega arith) e
-  repeated-is radio e = other-kind (radioFrom 16 false v) Value (λ i. let z : _≡_ {A = ℕ} 0 1 = cc in omega arith) e
-  repeated-is (within a b) e = other-kind (leb a v && leb v b) (rules.forbidden (c .level)) (level-kind (c .level)) e
+  allowed-small e = by-test (leb v 2) refl e
+    where
+      by-test : (b : Bool) → leb v 2 ≡ b → cond b (misdirected p c (c .level) v) (some Value) ≡ none → v ≤ 2
+      by-test true i h = leb-true v 2 i
+      by-test false i h = let z : _≡_ {A = ℕ} 0 1 = cc in absurd (omega arith)
 
 -- ---- a step
 

@@ -1,8 +1,8 @@
--- Clause 5.1.5: a train that runs either way gets at most one packet of each kind but ETCS-44. Two directions collide just where some train
--- gets both. Assumes nothing.
+-- Clause 5.1.5: a train that runs either way gets at most one packet of each kind but ETCS-44. Of 0 to 2, two directions collide just where
+-- some train gets both; and no packet of a telegram has another direction, or is left out. Assumes nothing.
 use mathlib.Core.Bool.{Bool, true, false, _&&_, _||_, or-true, or-comm}
 use mathlib.Core.List.{List, [], _∷_, _++_}
-use mathlib.Core.Path.{_≡_, refl, sym, ap, _∙_}
+use mathlib.Core.Path.{_≡_, refl, sym, ap, _∙_, subst}
 use Prim.Native.Nat.{ℕ, zero, suc, _≤_}
 use native.Mathlib.Omega.{arith}
 use borrow.Author.Tests.{eqb-true, eqb-false, eq-eqb, ne-eqb}
@@ -17,12 +17,16 @@ use Rattle.format.specs.Telegrams.Run.{last, more}
 use Rattle.laws.proofs.Steps.{go-next, over-mark}
 use Rattle.laws.proofs.Points.{holding, Sends}
 use Rattle.laws.proofs.Points.Sends.{nothing, one-more}
-use Rattle.laws.proofs.Headed.{packet-headed}
+use Rattle.laws.proofs.Headed.{named-due, packet-headed}
 use Rattle.laws.proofs.Standing.{apart}
-use Rattle.laws.proofs.Pairs.{PacketIn, Order, serves, packets-ordered, not-empty}
+use Rattle.laws.proofs.Pairs.{PacketIn, Newest, Order, serves, packet-newest, packets-ordered, not-empty}
+use Rattle.laws.proofs.Pairs.Newest.{old, new}
 use Rattle.laws.proofs.Pairs.Order.{same, ahead, behind}
-use Rattle.laws.proofs.Recalled.{sends-awaits, named-begins}
-use Rattle.laws.proofs.Apart.{telegram-apart}
+use Rattle.laws.proofs.Awaited.{Awaits}
+use Rattle.laws.proofs.Awaited.Awaits.{begins, directs, goes-by}
+use Rattle.laws.proofs.Recalled.{begins-apart, sends-awaits, named-begins}
+use Rattle.laws.proofs.Collided.{allowed-small, go-unbroken}
+use Rattle.laws.proofs.Apart.{Finished, finished, telegram-apart}
 
 -- ---- the rule of directions
 
@@ -77,18 +81,23 @@ module _ {es : List Entry} (telegram : Telegram paper es) (id : ℕ) (not-44 : i
       (record { id = id; dir = e; later = k; not-44 = not-44; earlier = record { other = d; packet = h; collides = c } })
 
   -- so the two are one
-  pub one-packet : {d e : ℕ} (h : PacketIn es id d) (k : PacketIn es id e) → clash d e ≡ true → (h .before ≡ k .before) × (d ≡ e)
-  one-packet {d} {e} h k c = by-order (packets-ordered h k)
+  same-packet : {d e : ℕ} (h : PacketIn es id d) (k : PacketIn es id e) → clash d e ≡ true → (h .before ≡ k .before) × (d ≡ e)
+  same-packet {d} {e} h k c = by-order (packets-ordered h k)
     where
       by-order : Order (h .before) (k .before) id d id e → (h .before ≡ k .before) × (d ≡ e)
       by-order (same i j) = (i, j)
       by-order (ahead x y) = absurd (not-before d e k x (clash-symmetric e d ∙ c))
       by-order (behind x y) = absurd (not-before e d h x c)
 
--- "Clause 5.1.5 allows one packet per direction": a train running either way gets at most one packet of each kind but ETCS-44
-pub one-each-way : {es : List Entry} → Telegram paper es → (way id d e : ℕ) → (id ≡ 44 → ⊥) → (h : PacketIn es id d) (k : PacketIn es id e)
-    → serves d way ≡ true → serves e way ≡ true → (h .before ≡ k .before) × (d ≡ e)
-one-each-way t way id d e not-44 h k a b = one-packet t id not-44 h k (served-clash way d e a b)
+-- "Clause 5.1.5 allows one packet per direction": a train running either way gets at most one packet of each kind but ETCS-44. Two packets of
+-- one kind that both count for it are one, for the same entries stand before both.
+abbrev pub OneEachWay : List Entry → Type 0
+OneEachWay es =
+    (way id d e : ℕ) → (id ≡ 44 → ⊥) → (h : PacketIn es id d) (k : PacketIn es id e) → serves d way ≡ true → serves e way ≡ true
+    → (h .before ≡ k .before) × (d ≡ e)
+
+pub one-each-way : {es : List Entry} → Telegram paper es → OneEachWay es
+one-each-way t way id d e not-44 h k a b = same-packet t id not-44 h k (served-clash way d e a b)
 
 -- ---- and no packet is left out
 
@@ -131,3 +140,41 @@ pub every-packet : {p : Terms} {es : List Entry} → Telegram p es → (id : ℕ
 every-packet {p} t id b a i =
     let d = directed-on p id b a nothing t i in
     (d .0, (record { before = b; after = d .1 .0; parts = i ∙ ap (λ (l : List Entry). b ++ holding NID-PACKET id ∷ l) (d .1 .1) }, refl))
+
+-- ---- and its Q_DIR is 0, 1 or 2
+
+-- of a packet that the last entry makes: the entry breaks no rule
+newest-small : {p : Terms} {es : List Entry} {s : State} {v : ℕ} (t : Items) (c : Context) (b : List Entry) (id d : ℕ) → Sends p es s
+    → step p s v ≡ go t c → entry s v ≡ holding Q-DIR d → es ≡ b ++ (holding NID-PACKET id ∷ []) → d ≤ 2
+newest-small {p} {es} {s} {v} t c b id d h e f j = by-due (sends-awaits h)
+  where
+    value-is : v ≡ d
+    value-is = ap (λ (x : Entry). x .value) f
+
+    by-due : Awaits es s → d ≤ 2
+    by-due (begins i) = absurd (begins-apart (eqb v 255) (rw i at (ap (λ (x : Entry). x .field) f)))
+    by-due (directs g q l a n k) = rw value-is at (allowed-small p (s .context) v (rw q at (go-unbroken p s v t c e)))
+    by-due (goes-by g w) = absurd (w .undirected (sym (named-due (s .todo) v g) ∙ ap (λ (x : Entry). x .field) f) b id j)
+
+-- of each packet that was sent
+sends-small : {p : Terms} {es : List Entry} {s : State} {id d : ℕ} → Sends p es s → PacketIn es id d → d ≤ 2
+sends-small nothing h = not-empty (h .before) _ _ (h .parts)
+sends-small {id = id} {d = d} (one-more {es = es} {s = s} v {t = t} {c = c} w fits e) h =
+    by-last (λ k. sends-small w k) (packet-newest h)
+  where
+    by-last : (PacketIn es id d → d ≤ 2) → Newest es (entry s v) (h .before) id d → d ≤ 2
+    by-last before (old a j) = before (record { before = h .before; after = a; parts = j })
+    by-last before (new f j) = newest-small t c (h .before) id d w e f j
+
+-- of each packet of a telegram
+pub telegram-small : {p : Terms} {es : List Entry} {id d : ℕ} → Telegram p es → PacketIn es id d → d ≤ 2
+telegram-small {p} {es} {id} {d} t h = by-last (packet-newest (subst (λ (l : List Entry). PacketIn l id d) (w .ends) h))
+  where
+    w : Finished p es
+    w = finished t
+
+    by-last : {b : List Entry} → Newest (w .sent) (entry (w .state) (w .value)) b id d → d ≤ 2
+    by-last {b} (old a j) = sends-small (w .sends) (record { before = b; after = a; parts = j })
+    by-last (new f j) =
+        let m = over-mark p (w .state) (w .value) (w .marks) in
+        absurd (begins-apart (eqb (w .value) 255) (rw (m .0) at (ap (λ (x : Entry). x .field) f)))

@@ -36,6 +36,7 @@ pub mod Awaited
 pub mod Recalled
 pub mod Collided
 pub mod Apart
+pub mod Tens
 pub mod EachWay
 pub mod Stricter
 pub mod Mended

@@ -9,7 +9,6 @@ use Prim.Native.Nat.{ℕ, _≤_}
 use native.Mathlib.Omega.{arith}
 use lib.Dec.{eqb}
 use lib.ListN.{length}
-use Rattle.format.specs.Fields.{NID-PACKET}
 use Rattle.format.specs.Rules.{State, Terms, Earlier, begun, among, collidesBy, fieldPlace}
 use Rattle.format.specs.Telegrams.{Entry, entry, Taken, read, write, fromBits, fromValues, bitsIn, valuesIn, all, bits, values, bitCount, Telegram}
 use Rattle.format.specs.Telegrams.Result.{accepted, refused}
@@ -18,31 +17,23 @@ use Rattle.format.specs.declared.Refusal.{Refusal}
 use Rattle.laws.proofs.Sources.{Source, Sent, Listed, from-bits, from-values}
 use Rattle.laws.proofs.Round.{all-append}
 use Rattle.laws.proofs.Demand2.{below-bits, room}
-use Rattle.laws.proofs.Points.{holding, Pointed}
+use Rattle.laws.proofs.Points.{Pointed}
 use Rattle.laws.proofs.Points.Points.{breaking}
 use Rattle.laws.proofs.Offending.{offends}
-use Rattle.laws.proofs.Pointed.{pointing}
 use Rattle.laws.proofs.JustPointed.{read-refuses, write-refuses}
-use Rattle.laws.proofs.Pairs.{Pair, laterAt, pair-grown}
+use Rattle.laws.proofs.Pairs.{Pair, pair-grown}
 use Rattle.laws.proofs.Recalled.{sends-stands}
 use Rattle.laws.proofs.Collided.{collides-is, breaks-repeated}
-use Rattle.laws.proofs.Apart.{NewPair, new-pair-at, repeated-pair, sends-apart, telegram-apart}
-use Rattle.laws.proofs.Stricter.{Stricter, Halted, run-weaker, accepted-or-halted}
+use Rattle.laws.proofs.Apart.{new-pair-at, repeated-pair, new-first, telegram-apart}
+use Rattle.laws.proofs.Tens.{directing, AtFirst}
+use Rattle.laws.proofs.Stricter.{Weaker, Halted, run-weaker, accepted-or-halted}
 
--- the terms of a rule of directions, whose refusals point at their fields
-abbrev pub directing : (ℕ → ℕ → Bool) → Terms
-directing collide = pointing (collidesBy collide)
-
--- the refusal as 10 at the later packet's Q_DIR
-abbrev pub repeatedAt : {collide : ℕ → ℕ → Bool} {es : List Entry} → Pair collide es → Refusal
-repeatedAt h = record { kind = Repeated; place = laterAt h }
-
--- entries that have a pair, of which the later packet is the first that makes one; and there reading and writing refuse them
+-- entries that have a pair, and the refusal as 10 at the first: reading and writing give it
 pub record Turned (collide : ℕ → ℕ → Bool) (es : List Entry) : Type 0 where
-  pub pair : Pair collide es
-  pub first : Pair collide (pair .later .before) → ⊥
-  pub read-now : read (directing collide) (bits es) ≡ refused (repeatedAt pair)
-  pub written-now : write (directing collide) (values es) ≡ refused (repeatedAt pair)
+  pub refusal : Refusal
+  pub there : AtFirst collide es refusal
+  pub read-now : read (directing collide) (bits es) ≡ refused refusal
+  pub written-now : write (directing collide) (values es) ≡ refused refusal
 
 -- ---- where a run halts
 
@@ -64,25 +55,22 @@ module _ (collide : ℕ → ℕ → Bool) where
           points = breaking (law .gives (h .state) (h .value) (all part (h .left)) (h .fits)) (h .repeats) o;
         }
 
-  -- there the first pair is made
-  halted-first : {es : List Entry} {e : Entry} (h : Halted (directing collide) es) (w : NewPair collide (h .sent) e)
-      → Pair collide (w .pair .later .before) → ⊥
-  halted-first h w k =
-      sends-apart fieldPlace collide (h .sends) (subst (Pair collide) (sym (w .ends)) (pair-grown k (holding NID-PACKET (w .pair .id) ∷ [])))
-
   -- so what halts is refused there, in reading and in writing
   halted-turned : {es : List Entry} → Halted (directing collide) es → length (bits es) ≤ 830 → Turned collide es
   halted-turned {es} h n =
       let w = repeated-pair fieldPlace collide (h .sends) (h .repeats) in
-      let at = ap (λ (x : ℕ). refused (record { kind = Repeated; place = x })) (sym (new-pair-at w)) in
       let r = read-refuses (collidesBy collide) (bits es) (below-bits es) n _ .1 (halted-pointed fromBits bitsIn Sent from-bits h) in
       let s = write-refuses (collidesBy collide) (values es) _ .1 (halted-pointed fromValues valuesIn Listed from-values h) in
       subst (Turned collide) (sym (h .parts))
       (record {
-        pair = pair-grown (w .pair) (h .left);
-        first = halted-first h w;
-        read-now = ap (λ (l : List Entry). read (directing collide) (bits l)) (sym (h .parts)) ∙ r ∙ at;
-        written-now = ap (λ (l : List Entry). write (directing collide) (values l)) (sym (h .parts)) ∙ s ∙ at;
+        refusal = record { kind = Repeated; place = bitCount (h .sent) };
+        there = record {
+          pair = pair-grown (w .pair) (h .left);
+          first = new-first fieldPlace collide (h .sends) w;
+          is = ap (λ (x : ℕ). record { kind = Repeated; place = x }) (sym (new-pair-at w));
+        };
+        read-now = ap (λ (l : List Entry). read (directing collide) (bits l)) (sym (h .parts)) ∙ r;
+        written-now = ap (λ (l : List Entry). write (directing collide) (values l)) (sym (h .parts)) ∙ s;
       })
 
 -- ---- two rules of directions, of which the second is the stricter
@@ -109,8 +97,8 @@ module _ (weak strong : ℕ → ℕ → Bool) (implies : (d e : ℕ) → weak d 
   among-implies i d (e ∷ l) h = one-implies i d e l (eqb i (e .id)) (weak d (e .dir)) refl (among-implies i d l) h
 
   -- so what collides by the weak rule collides by the strong one
-  pub stricter : Stricter old new
-  stricter c v h =
+  pub weaker : Weaker old new
+  weaker c v h =
       let w = collides-is weak c v .0 h in
       collides-is strong c v .1 (w .0, among-implies (c .id) v (c .earlier) (w .1))
 
@@ -118,7 +106,7 @@ module _ (weak strong : ℕ → ℕ → Bool) (implies : (d e : ℕ) → weak d 
 
   -- what is accepted now was accepted before
   pub still-accepted : {es : List Entry} → Telegram new es → Telegram old es
-  still-accepted t = run-weaker old new stricter t
+  still-accepted t = run-weaker old new weaker t
 
   -- What was accepted is accepted and has no pair; or it is refused, as "10, in its old order, at the later packet of any such pair". Of
   -- several pairs that is the one whose later packet comes first.
@@ -127,4 +115,4 @@ module _ (weak strong : ℕ → ℕ → Bool) (implies : (d e : ℕ) → weak d 
   mended t =
       let n = room old t in
       ⊎-elim (λ r. inl (r, telegram-apart fieldPlace strong r)) (λ h. inr (halted-turned strong h (omega arith)))
-      (accepted-or-halted old new stricter t)
+      (accepted-or-halted old new weaker t)

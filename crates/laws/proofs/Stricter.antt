@@ -20,8 +20,8 @@ use Rattle.laws.proofs.Collided.{step-kept}
 use Rattle.laws.proofs.Apart.{ruled, repeated-pair, telegram-apart}
 
 -- what collides by the first collides by the second
-abbrev pub Stricter : Terms → Terms → Type 0
-Stricter p q = (c : Context) (v : ℕ) → p .collides c v ≡ true → q .collides c v ≡ true
+abbrev pub Weaker : Terms → Terms → Type 0
+Weaker p q = (c : Context) (v : ℕ) → p .collides c v ≡ true → q .collides c v ≡ true
 
 -- a run up to the first value that is refused as 10
 pub record Halted (q : Terms) (whole : List Entry) : Type 0 where
@@ -34,12 +34,12 @@ pub record Halted (q : Terms) (whole : List Entry) : Type 0 where
   pub repeats : step q state value ≡ breaks Repeated
   pub parts : whole ≡ (sent ++ (entry state value ∷ [])) ++ left
 
-module _ (p q : Terms) (stricter : Stricter p q) where
+module _ (p q : Terms) (weaker : Weaker p q) where
   -- ---- what the second accepts, the first accepts
 
   -- what a value leads to by the second, if it is not refused as 10, it leads to by the first
   pub step-weaker : (s : State) (v : ℕ) {n : Next} → step q s v ≡ n → (n ≡ breaks Repeated → ⊥) → step p s v ≡ n
-  step-weaker s v e not = ⊎-elim (λ k. sym k ∙ e) (λ k. absurd (not (sym e ∙ k))) (step-kept p q stricter s v)
+  step-weaker s v e not = ⊎-elim (λ k. sym k ∙ e) (λ k. absurd (not (sym e ∙ k))) (step-kept p q weaker s v)
 
   -- where the second leads on, the first does
   go-weaker : (s : State) (v : ℕ) {t : Items} {c : Context} → step q s v ≡ go t c → step p s v ≡ go t c
@@ -74,13 +74,13 @@ module _ (p q : Terms) (stricter : Stricter p q) where
 
   -- a run by the first is one by the second, or halts
   goes-on : {es : List Entry} {s : State} {rest : List Entry} → Sends q es s → Run p s rest → Run q s rest ⊎ Halted q (es ++ rest)
-  goes-on {es} h (last {s = s} {v = v} f e) = by-step (step-kept p q stricter s v)
+  goes-on {es} h (last {s = s} {v = v} f e) = by-step (step-kept p q weaker s v)
     where
       by-step : (step q s v ≡ step p s v) ⊎ (step q s v ≡ breaks Repeated) → Run q s (entry s v ∷ []) ⊎ Halted q (es ++ entry s v ∷ [])
       by-step (inl k) = inl (last f (k ∙ e))
       by-step (inr k) = inr (halts-here h f [] k)
   goes-on {es} h (more {s = s} {v = v} {t = t} {c = c} {es = rest} f e r) =
-      by-step (step-kept p q stricter s v) (λ k. goes-on (one-more v h f k) r)
+      by-step (step-kept p q weaker s v) (λ k. goes-on (one-more v h f k) r)
     where
       by-step : (step q s v ≡ step p s v) ⊎ (step q s v ≡ breaks Repeated)
           → (step q s v ≡ go t c → Run q (moved s t c) rest ⊎ Halted q ((es ++ (entry s v ∷ [])) ++ rest))
@@ -96,8 +96,8 @@ module _ (p q : Terms) (stricter : Stricter p q) where
 -- ---- just the pairs
 
 -- the terms without rule 10, wherever their refusals point
-abbrev pub unruled : (Kind → State → ℕ → ℕ) → Terms
-unruled place = record { placeOf = place; collides = λ c v. false }
+abbrev pub lenient : (Kind → State → ℕ → ℕ) → Terms
+lenient place = record { placeOf = place; collides = λ c v. false }
 
 module _ (place : Kind → State → ℕ → ℕ) (collide : ℕ → ℕ → Bool) where
   -- a run that halts has a pair
@@ -105,17 +105,17 @@ module _ (place : Kind → State → ℕ → ℕ) (collide : ℕ → ℕ → Boo
   halted-pair h = subst (Pair collide) (sym (h .parts)) (pair-grown (repeated-pair place collide (h .sends) (h .repeats) .pair) (h .left))
 
   -- what a weaker rule accepts and has no pair is accepted
-  pub only-pairs : (p : Terms) → Stricter p (ruled place collide) → {es : List Entry} → Telegram p es → (Pair collide es → ⊥)
+  pub only-pairs : (p : Terms) → Weaker p (ruled place collide) → {es : List Entry} → Telegram p es → (Pair collide es → ⊥)
       → Telegram (ruled place collide) es
-  only-pairs p stricter t apart =
-      ⊎-elim (λ r. r) (λ h. absurd (apart (halted-pair h))) (accepted-or-halted p (ruled place collide) stricter t)
+  only-pairs p weaker t apart =
+      ⊎-elim (λ r. r) (λ h. absurd (apart (halted-pair h))) (accepted-or-halted p (ruled place collide) weaker t)
 
   -- all that rule 10 asks of a telegram is that it has no pair
-  pub just-pairs : {es : List Entry} → Telegram (ruled place collide) es ↔ (Telegram (unruled place) es × (Pair collide es → ⊥))
+  pub just-pairs : {es : List Entry} → Telegram (ruled place collide) es ↔ (Telegram (lenient place) es × (Pair collide es → ⊥))
   just-pairs = (
-    λ t. (run-weaker (unruled place) (ruled place collide) never t, telegram-apart place collide t),
-    λ h. only-pairs (unruled place) never (h .0) (h .1),
+    λ t. (run-weaker (lenient place) (ruled place collide) never t, telegram-apart place collide t),
+    λ h. only-pairs (lenient place) never (h .0) (h .1),
   )
     where
-      never : Stricter (unruled place) (ruled place collide)
+      never : Weaker (lenient place) (ruled place collide)
       never c v e = cc

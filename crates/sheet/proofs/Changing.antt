@@ -13,8 +13,8 @@ use Rattle.format.specs.Telegrams.Result.{accepted, refused}
 use Rattle.format.specs.declared.Kind.the-variants.{Room, Repeated}
 use Rattle.format.specs.declared.Refusal.{Refusal}
 use Rattle.laws.proofs.Pairs.{Pair}
-use Rattle.laws.proofs.Mended.{directing}
-use Rattle.laws.proofs.Changed.{AtFirst, Changed, write-changed}
+use Rattle.laws.proofs.Tens.{directing, AtFirst}
+use Rattle.laws.proofs.Changed.{Changed, write-changed}
 use Rattle.states.proofs.Changing.{tested-changed, check-changed}
 use Rattle.states.specs.Labels.{numbers}
 use Rattle.sheet.specs.Reading.{Rows, sheetIn}

@@ -18,7 +18,7 @@ use Rattle.format.specs.declared.Refusal.{Refusal}
 use Rattle.laws.proofs.Demand2.{write-is}
 use Rattle.laws.proofs.Pairs.{PacketIn, serves}
 use Rattle.laws.proofs.EachWay.{one-each-way}
-use Rattle.laws.proofs.Mended.{directing}
+use Rattle.laws.proofs.Tens.{directing}
 use Rattle.laws.proofs.Changed.{Changed, read-changed, write-changed}
 use Rattle.laws.proofs.BothWays.{same-clash}
 use Rattle.states.specs.Labels.{labelInto}
