@@ -71,10 +71,10 @@ absurd-flag b p q = let z : _≡_ {A = ℕ} 0 1 = cc in absurd (omega arith)
 
 -- ---- whether it collides
 
-pub collides-as-kept : (seen : List ℕ) (n : ℕ) (s : State) (v : ℕ) (r : Bool) (l : List Earlier) → Same seen n l → v < 4
+pub collides-as-kept : (seen : List ℕ) (n : ℕ) (s : State) (v : ℕ) (r : Bool) (l : List Earlier) → Same seen n l
     → r ≡ (not (eqb (s .id) 44) && among clash (s .id) v (packetsIn (take n seen))) → collidesBy clash (contextOf l s) v ≡ r
 unfolding collidesBy
-collides-as-kept seen n s v r l same h e = rw (same (s .id) v h) (sym e)
+collides-as-kept seen n s v r l same e = rw (same clash (s .id) v) (sym e)
 
 -- ---- how it is kept
 
@@ -107,10 +107,10 @@ earlier-grown s l v d =
 
 -- ---- and kept in the array
 
-among-last : (i d x : ℕ) (xs : List ℕ) → among clash i d (packetsIn (xs ++ (x ∷ []))) ≡ (eqb i (x / 4) && clash d (x % 4) || among clash i d (packetsIn xs))
+among-last : (collide : ℕ → ℕ → Bool) (i d x : ℕ) (xs : List ℕ) → among collide i d (packetsIn (xs ++ (x ∷ []))) ≡ (eqb i (x / 4) && collide d (x % 4) || among collide i d (packetsIn xs))
 unfolding among
-among-last i d x [] = refl
-among-last i d x (y ∷ xs) = rw (among-last i d x xs) (swapped (eqb i (y / 4) && clash d (y % 4)) (eqb i (x / 4) && clash d (x % 4)) (among clash i d (packetsIn xs)))
+among-last collide i d x [] = refl
+among-last collide i d x (y ∷ xs) = rw (among-last collide i d x xs) (swapped (eqb i (y / 4) && collide d (y % 4)) (eqb i (x / 4) && collide d (x % 4)) (among collide i d (packetsIn xs)))
   where
     swapped : (a b e : Bool) → (a || (b || e)) ≡ (b || (a || e))
     swapped true true e = refl
@@ -121,13 +121,13 @@ among-last i d x (y ∷ xs) = rw (among-last i d x xs) (swapped (eqb i (y / 4) &
 pub same-after : (before : List ℕ) (n : ℕ) (b : Bool) (s : State) (v r : ℕ) (after : List ℕ) (l : List Earlier) → Directing s b
     → n < length before → (b ≡ true → v < 4) → Same before n l → Held before n b s v r after → Same after r (earlierAfter l s v)
 unfolding among
-same-after before n false s v r after l d h f same g = λ i x k. rw (earlier-kept s l v d, g .contents, g .count) (same i x k)
+same-after before n false s v r after l d h f same g = λ collide i x. rw (earlier-kept s l v d, g .contents, g .count) (same collide i x)
 same-after before n true s v r after l d h f same g =
-    λ i x k.
+    λ collide i x.
     let small = f refl in
     let id-is : (4 * s .id + v) / 4 ≡ s .id = omega arith in
     let dir-is : (4 * s .id + v) % 4 ≡ v = omega arith in
-    rw (earlier-grown s l v d, g .contents, g .count, add-one n, take-suc-set before n (4 * s .id + v) h, among-last i x (4 * s .id + v) (take n before), id-is, dir-is, same i x k)
+    rw (earlier-grown s l v d, g .contents, g .count, add-one n, take-suc-set before n (4 * s .id + v) h, among-last collide i x (4 * s .id + v) (take n before), id-is, dir-is, same collide i x)
 
 -- ---- a driver's turn
 

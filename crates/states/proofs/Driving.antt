@@ -117,7 +117,7 @@ module _ (source : rules.State → List ℕ → Taken) (part : Entry → List �
           counts = refl;
           noted = omega arith;
           long = h;
-          same = λ i d l. refl;
+          same = λ collide i d. refl;
         }
 
     module _ {rows seen : List ℕ} {met : ℕ} {st : State} {count : ℕ} {xs : List ℕ} (i : Drives rows seen met st count xs) where

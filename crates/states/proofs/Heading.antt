@@ -182,7 +182,7 @@ module _ {s : List ℕ} {n : ℕ} {rows seen : List ℕ} {met : ℕ} {st : State
   passed2 : Passed seen met s1 (dirIn a) (Go s2)
   passed2 =
       passes seen met s1 (dirIn a) true false (Go s2) directs
-      (λ e l same. collides-as-kept seen met s1 (dirIn a) false l same (omega (arith, o .allowed)) (o .alone))
+      (λ e l same. collides-as-kept seen met s1 (dirIn a) false l same (o .alone))
       (stepped-goes s1 (dirIn a) false sound1 (Go s2) judged2 enters2)
 
   module _ {met2 : ℕ} {seen2 : List ℕ} (held : Held seen met true r (r .dir) met2 seen2) where

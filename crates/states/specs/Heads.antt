@@ -6,11 +6,11 @@ use mathlib.Core.List.{List}
 use mathlib.Core.Logic.{_⊎_}
 use Prim.Native.Nat.{ℕ, _+_, _/_, _%_, _≤_}
 use lib.Dec.{eqb}
-use lib.ListN.{length, take}
+use lib.ListN.{take}
 use Rattle.bits.specs.Take.{takeAt}
 use Rattle.bits.specs.declared.Taken.the-variants.{Field}
 use Rattle.format.specs.Rules.{clash, among}
-use Rattle.format.specs.Table.{act, fieldAt, codeOf, etcsRow, ctcsRow, words}
+use Rattle.format.specs.Table.{act, fieldAt, codeOf, etcsRow, ctcsRow}
 use Rattle.states.specs.Seen.{packetsIn}
 use Rattle.states.specs.declared.Begun.{Begun}
 use Rattle.states.specs.declared.Begun.the-variants.{To, Not}
@@ -70,11 +70,6 @@ dirIn a = a / 8192 % 4
 
 abbrev pub longIn : ℕ → ℕ
 longIn a = a % 8192
-
--- the array is the table of rows, and the packets before lie in theirs
-pub record Heading (rows seen : List ℕ) (met : ℕ) : Type 0 where
-  pub table : rows ≡ words
-  pub inside : met ≤ length seen
 
 -- the state behind the head
 abbrev pub opened : State → ℕ → State

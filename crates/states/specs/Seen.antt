@@ -18,14 +18,9 @@ abbrev pub packetsIn : List ℕ → List Earlier
 packetsIn [] = []
 packetsIn (x ∷ xs) = packetIn x ∷ packetsIn xs
 
--- a packet collides with one of the first n of the array just where it does with one of the list
+-- by any rule of directions, a packet collides with one of the first n of the array just where it does with one of the list
 abbrev pub Same : List ℕ → ℕ → List Earlier → Type 0
-Same seen n l = (i d : ℕ) → d < 4 → among clash i d l ≡ among clash i d (packetsIn (take n seen))
-
-pub record Repeating (seen : List ℕ) (n : ℕ) (directs : Bool) (s : State) (v : ℕ) : Type 0 where
-  pub inside : n ≤ length seen
-  pub small : s .id < 256
-  pub fits : directs ≡ true → v < 4
+Same seen n l = (collide : ℕ → ℕ → Bool) (i d : ℕ) → among collide i d l ≡ among collide i d (packetsIn (take n seen))
 
 -- where the field is a packet's Q_DIR, the answer is whether it collides with an earlier one
 abbrev pub Repeated : List ℕ → ℕ → Bool → State → ℕ → Bool → Type 0

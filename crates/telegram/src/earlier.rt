@@ -1,11 +1,10 @@
 // The packets that came before, each kept as 4 times its NID_PACKET plus its Q_DIR, and whether a packet collides with one of them.
-ghost use Rattle.states.specs.Seen.{Repeating, Repeated, Keeping, Held};
+ghost use Rattle.states.specs.Seen.{Repeated, Keeping, Held};
 use states::State;
 use states::collides;
 
 // Whether the packet collides with an earlier one, where the field that is due is its Q_DIR.
 pub(crate) fn repeated(seen: &[u16], n: usize, directs: bool, s: State, v: u64) -> bool
-    requires { ⌜ Repeating (now seen) n directs s v ⌝ }
     ensures { λ r. ⌜ Repeated (now (seen .entry)) n directs s v r ⌝ }
 {
     if !directs {

@@ -1,9 +1,9 @@
 // What stands in front, taken as one field: the header's first 25 bits, with all of it that a rule reads; a packet's NID_PACKET, Q_DIR and
 // L_PACKET, which are 23; and a CTCS packet's NID_XUSER, Q_DIR and L_PACKET, which are 24.
 ghost use mathlib.Core.Path.{_≡_};
-ghost use Prim.Native.Nat.{_<_};
 ghost use Rattle.format.specs.Table.{words};
-ghost use Rattle.states.specs.Heads.{Started, Heading, Headed, Inward, Led};
+ghost use Rattle.states.specs.Heads.{Started, Headed, Inward, Led};
+ghost use Rattle.states.specs.Machine.{InTable};
 use crate::rows::act;
 use crate::rows::code;
 use bits::Cursor;
@@ -68,7 +68,7 @@ pub(crate) fn leading(
     met: usize,
     st: State,
 ) -> Begun
-    requires { ⌜ Heading (now rows) (now seen) met × (st .todo .node < 213) ⌝ }
+    requires { ⌜ InTable (now rows) (st .todo .node) ⌝ }
     ensures { λ r. ⌜ Led (now (s .entry)) n (now (seen .entry)) met st r ⌝ }
 {
     let t = st.todo;
@@ -84,7 +84,7 @@ pub(crate) fn leading(
 // The head of the packet that begins here, after the packets of the first met of seen, if it keeps every rule and a field follows it. Row 0,
 // which stands for no packet, has no Q_DIR.
 fn head(rows: &[u32; 213], s: &[u8], n: usize, seen: &[u16], met: usize, st: State) -> Begun
-    requires { ⌜ Heading (now rows) (now seen) met ⌝ }
+    requires { ⌜ now rows ≡ words ⌝ }
     ensures { λ r. ⌜ Headed (now (s .entry)) n (now (seen .entry)) met st r ⌝ }
 {
     let c = Cursor { at: st.at };

@@ -28,7 +28,7 @@ loop-holds c = (omega arith, refl)
 returns-2 : tie.Need-returns-2 Inv-loop μ-loop
 returns-2 c =
     told (c .before .before .before .before .before .args .id) _ _ (c .before .before .before .if1 .left)
-    (all-passed (c .before .before .before .before .before .args .id) (c .before .before .before .before .before .args .dir) (c .before .before .before .before .before .args .seen .now) (c .before .before .loop .i) (c .before .before .before .before .before .args .n) (c .if2 .taken) (c .before .loop-test .taken) (c .before .before .loop .inv .1))
+    (all-passed clash (c .before .before .before .before .before .args .id) (c .before .before .before .before .before .args .dir) (c .before .before .before .before .before .args .seen .now) (c .before .before .loop .i) (c .before .before .before .before .before .args .n) (c .if2 .taken) (c .before .loop-test .taken) (c .before .before .loop .inv .1))
 
 mul-meets : tie.Need-mul-meets Inv-loop μ-loop
 mul-meets c = search needs
@@ -44,7 +44,7 @@ returns-3 c =
     let x = c .before .before .before .if2 .left in
     let h : c .before .before .before .before .before .loop .i < length (c .before .before .before .before .before .before .before .before .args .seen .now) = omega arith in
     told (c .before .before .before .before .before .before .before .before .args .id) _ _ (c .before .before .before .before .before .before .if1 .left)
-    (met (c .before .before .before .before .before .before .before .before .args .id) (c .before .before .before .before .before .before .before .before .args .dir) (c .before .before .before .before .before .before .before .before .args .seen .now) (c .before .before .before .before .before .loop .i) (c .before .before .before .before .before .before .before .before .args .n) (c .before .before .before .before .loop-test .taken) h (sym (c .before .meets .ensures) ∙ c .if3 .taken))
+    (met clash (c .before .before .before .before .before .before .before .before .args .id) (c .before .before .before .before .before .before .before .before .args .dir) (c .before .before .before .before .before .before .before .before .args .seen .now) (c .before .before .before .before .before .loop .i) (c .before .before .before .before .before .before .before .before .args .n) (c .before .before .before .before .loop-test .taken) h (sym (c .before .meets .ensures) ∙ c .if3 .taken))
 
 add-i : tie.Need-add-i Inv-loop μ-loop
 add-i c = search needs
@@ -58,7 +58,7 @@ loop-again c =
     let y = c .before .before .before .before .loop-test .taken in
     let h : c .before .before .before .before .before .loop .i < length (c .before .before .before .before .before .before .before .before .args .seen .now) = omega arith in (
       omega arith,
-      rw add-one (unmet (c .before .before .before .before .before .before .before .before .args .id) (c .before .before .before .before .before .before .before .before .args .dir) (c .before .before .before .before .before .before .before .before .args .seen .now) (c .before .before .before .before .before .loop .i) h (c .before .before .before .before .before .loop .inv .1) (sym (c .before .meets .ensures) ∙ c .if3 .left)),
+      rw add-one (unmet clash (c .before .before .before .before .before .before .before .before .args .id) (c .before .before .before .before .before .before .before .before .args .dir) (c .before .before .before .before .before .before .before .before .args .seen .now) (c .before .before .before .before .before .loop .i) h (c .before .before .before .before .before .loop .inv .1) (sym (c .before .meets .ensures) ∙ c .if3 .left)),
     )
 
 returns-4 : tie.Need-returns-4 Inv-loop μ-loop

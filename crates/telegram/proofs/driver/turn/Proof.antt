@@ -1,7 +1,6 @@
 -- `telegram::driver::turn` meets its contract: at a packet's Q_DIR the step is told whether it collides; elsewhere nothing asks. Assumes nothing.
-use native.Mathlib.Omega.{arith}
 use borrow.Author.Needs.{needs}
-use Rattle.states.proofs.Directions.{dir-small, passes}
+use Rattle.states.proofs.Directions.{passes}
 use Rattle.telegram.proofs.driver.turn.Statement.{statement}
 use Rattle.telegram.proofs.driver.turn.Tie as tie
 
@@ -9,13 +8,7 @@ directing-requires : tie.Need-directing-requires
 directing-requires c κs = search needs
 
 repeated-requires : tie.Need-repeated-requires
-repeated-requires c κs =
-    let a = c .before .before in
-    record {
-      inside = omega (arith, a .pre .inside);
-      small = a .pre .stepping .sound .small;
-      fits = dir-small (a .args .s) (a .args .v) _ (c .directing .ensures) (a .pre .stepping .fits);
-    }
+repeated-requires c κs = search needs
 
 step-requires : tie.Need-step-requires
 step-requires c κs = search needs

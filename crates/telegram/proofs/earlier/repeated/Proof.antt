@@ -16,7 +16,7 @@ returns-2 : tie.Need-returns-2
 returns-2 c =
     λ e l same.
     let a = c .before .before .before in
-    collides-as-kept (now (a .args .seen)) (a .args .n) (a .args .s) (a .args .v) (c .collides .result) l same (a .pre .fits e) (c .collides .ensures)
+    collides-as-kept (now (a .args .seen)) (a .args .n) (a .args .s) (a .args .v) (c .collides .result) l same (c .collides .ensures)
 
 pub repeated-spec : {M : Type 1} → statement M
 repeated-spec = tie.close (tie.spec returns collides-requires returns-2)

@@ -31,7 +31,7 @@ in-table : (c : tie.After-etcs) → c .etcs .result .row < 213
 in-table c = subst (λ (k : ℕ). k < 213) (etcs-row _ (c .etcs .result) (c .etcs .ensures)) (etcs-in _)
 
 code-requires : tie.Need-code-requires
-code-requires c κs = record { table = c .before .before .before .before .before .before .before .pre .table; inside = in-table c }
+code-requires c κs = record { table = c .before .before .before .before .before .before .before .pre; inside = in-table c }
 
 returns-2 : tie.Need-returns-2
 returns-2 c = search needs
@@ -44,7 +44,7 @@ add-act : tie.Need-add-act
 add-act c = omega (arith, directs c)
 
 act-requires : tie.Need-act-requires
-act-requires c κs = record { table = c .before .before .before .before .before .before .before .before .before .pre .table; inside = directs c }
+act-requires c κs = record { table = c .before .before .before .before .before .before .before .before .before .pre; inside = directs c }
 
 returns-3 : tie.Need-returns-3
 returns-3 c = search needs

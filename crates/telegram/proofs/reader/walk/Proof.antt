@@ -37,7 +37,7 @@ add-count c =
 leading-requires : tie.Need-leading-requires Inv-loop μ-loop
 leading-requires c κs =
     let i = scans-drifted (c .before .before .before .before .before .before .loop .inv) (c .before .before .before .before .before .drift .ensures) in
-    (record { table = i .drives .table; inside = omega (arith, i .drives .noted, i .within, i .low, i .drives .long) }, i .drives .sound .tidy .inside)
+    record { table = i .drives .table; inside = i .drives .sound .tidy .inside }
 
 enum-known-after : tie.Need-enum-known-after Inv-loop μ-loop
 enum-known-after c = search needs
