@@ -3,9 +3,10 @@ use mathlib.Core.Path.{_≡_, refl}
 use mathlib.Core.List.{List, [], _∷_, map}
 use Prim.Native.Nat.{ℕ}
 use Prim.Native.String.{String}
+use lib.Dec.{eqb}
 use Rattle.format.specs.Packets.{_⧺_, times, header, etcs, ctcs, find}
 use Rattle.format.specs.Refusals.{numberOf}
-use Rattle.format.specs.Rules.{begun, next, misdirected, broken, noted, closes, settled, onward, step, radioFrom, spotOf, spotAt, placeFrom, fieldPlace, clash, among, collidesBy, paper}
+use Rattle.format.specs.Rules.{Terms, begun, next, misdirected, broken, noted, closes, settled, onward, step, radioFrom, spotOf, spotAt, placeFrom, fieldPlace, clash, among, collidesBy, paper}
 use Rattle.format.specs.Telegrams.{Result, names, places, bitCount, fromValues, drive, write}
 use Rattle.format.specs.Telegrams.Result.{accepted, refused}
 
@@ -14,27 +15,33 @@ abbrev said : Result → List ℕ
 said (accepted es) = 0 ∷ bitCount es ∷ []
 said (refused r) = numberOf (r .kind) ∷ r .place ∷ []
 
-unfoldable pub written : List ℕ → Result
+unfoldable pub writtenBy : Terms → List ℕ → Result
 unfolding write drive begun fromValues step next find etcs ctcs header times _⧺_ broken misdirected noted settled onward closes radioFrom spotOf spotAt placeFrom fieldPlace collidesBy among clash
-written vs = write paper vs
+writtenBy p vs = write p vs
+
+abbrev pub written : List ℕ → Result
+written vs = writtenBy paper vs
 
 -- a header, with packets or a part of one after it
+abbrev toldBy : Terms → List ℕ → List ℕ
+toldBy p vs = said (writtenBy p (1 ∷ 16 ∷ 0 ∷ 0 ∷ 1 ∷ 0 ∷ 255 ∷ 9 ∷ 3007 ∷ 1 ∷ vs))
+
 abbrev told : List ℕ → List ℕ
-told vs = said (written (1 ∷ 16 ∷ 0 ∷ 0 ∷ 1 ∷ 0 ∷ 255 ∷ 9 ∷ 3007 ∷ 1 ∷ vs))
+told vs = toldBy paper vs
 
 -- Q_UPDOWN, M_VERSION, Q_MEDIA, N_PIG above N_TOTAL, M_DUP; then nothing at all, and values that end in the header
 header-rules : map (λ vs. said (written vs))
     ((0 ∷ 16 ∷ 0 ∷ 0 ∷ 1 ∷ []) ∷ (1 ∷ 17 ∷ []) ∷ (1 ∷ 16 ∷ 1 ∷ []) ∷ (1 ∷ 16 ∷ 0 ∷ 2 ∷ 1 ∷ []) ∷ (1 ∷ 16 ∷ 0 ∷ 1 ∷ 1 ∷ 3 ∷ [])
     ∷ [] ∷ (1 ∷ 16 ∷ 0 ∷ []) ∷ [])
     ≡ (4 ∷ 0 ∷ []) ∷ (4 ∷ 1 ∷ []) ∷ (4 ∷ 8 ∷ []) ∷ (4 ∷ 12 ∷ []) ∷ (4 ∷ 15 ∷ []) ∷ (5 ∷ 0 ∷ []) ∷ (5 ∷ 9 ∷ []) ∷ []
-unfolding written
+unfolding writtenBy
 header-rules = refl
 
 -- the end mark alone, with a value after it, without it; ETCS-254 with a right and a wrong L_PACKET; an identifier of no table
 between-packets : map told
     ((255 ∷ []) ∷ (255 ∷ 0 ∷ []) ∷ [] ∷ (254 ∷ 2 ∷ 23 ∷ 255 ∷ []) ∷ (254 ∷ 2 ∷ 24 ∷ 255 ∷ []) ∷ (7 ∷ []) ∷ [])
     ≡ (0 ∷ 58 ∷ []) ∷ (11 ∷ 58 ∷ []) ∷ (5 ∷ 50 ∷ []) ∷ (0 ∷ 81 ∷ []) ∷ (8 ∷ 60 ∷ []) ∷ (6 ∷ 50 ∷ []) ∷ []
-unfolding written
+unfolding writtenBy
 between-packets = refl
 
 -- Q_DIR 3; Q_SCALE 3; NID_STM 0, and none where the level is not 1, as the second group shows; a digit after an F
@@ -42,7 +49,7 @@ values-allowed : map told
     ((132 ∷ 3 ∷ []) ∷ (21 ∷ 1 ∷ 54 ∷ 3 ∷ []) ∷ (46 ∷ 1 ∷ 47 ∷ 1 ∷ 0 ∷ []) ∷ (46 ∷ 1 ∷ 42 ∷ 1 ∷ 3 ∷ 1 ∷ 0 ∷ 255 ∷ [])
     ∷ (42 ∷ 1 ∷ 113 ∷ 0 ∷ 0 ∷ 0 ∷ 0x08614970020002FF ∷ 0 ∷ 255 ∷ []) ∷ (42 ∷ 1 ∷ 113 ∷ 0 ∷ 0 ∷ 0 ∷ 0x0861497002000FF2 ∷ []) ∷ [])
     ≡ (7 ∷ 58 ∷ []) ∷ (7 ∷ 73 ∷ []) ∷ (7 ∷ 76 ∷ []) ∷ (0 ∷ 100 ∷ []) ∷ (0 ∷ 171 ∷ []) ∷ (7 ∷ 98 ∷ []) ∷ []
-unfolding written
+unfolding writtenBy
 values-allowed = refl
 
 -- ETCS-44 with CTCS-5: right; an inner Q_DIR of its own; an inner length, an outer length, then both, that are wrong; CTCS-6
@@ -50,7 +57,7 @@ inner-packets : map told
     ((44 ∷ 1 ∷ 48 ∷ 5 ∷ 1 ∷ 25 ∷ 0 ∷ 255 ∷ []) ∷ (44 ∷ 1 ∷ 48 ∷ 5 ∷ 0 ∷ 25 ∷ 0 ∷ []) ∷ (44 ∷ 1 ∷ 48 ∷ 5 ∷ 1 ∷ 24 ∷ 0 ∷ [])
     ∷ (44 ∷ 1 ∷ 57 ∷ 5 ∷ 1 ∷ 25 ∷ 0 ∷ []) ∷ (44 ∷ 1 ∷ 57 ∷ 5 ∷ 1 ∷ 24 ∷ 0 ∷ []) ∷ (44 ∷ 1 ∷ 48 ∷ 6 ∷ []) ∷ [])
     ≡ (0 ∷ 106 ∷ []) ∷ (9 ∷ 82 ∷ []) ∷ (8 ∷ 84 ∷ []) ∷ (8 ∷ 60 ∷ []) ∷ (8 ∷ 84 ∷ []) ∷ (6 ∷ 73 ∷ []) ∷ []
-unfolding written
+unfolding writtenBy
 inner-packets = refl
 
 -- ETCS-132 twice, with each pair of directions: only 0 and 1 go together
@@ -58,8 +65,14 @@ directions-collide : map (λ first. map (λ d. told (132 ∷ first ∷ 24 ∷ 0 
     ≡ ((10 ∷ 82 ∷ []) ∷ (0 ∷ 106 ∷ []) ∷ (10 ∷ 82 ∷ []) ∷ [])
     ∷ ((0 ∷ 106 ∷ []) ∷ (10 ∷ 82 ∷ []) ∷ (10 ∷ 82 ∷ []) ∷ [])
     ∷ ((10 ∷ 82 ∷ []) ∷ (10 ∷ 82 ∷ []) ∷ (10 ∷ 82 ∷ []) ∷ []) ∷ []
-unfolding written
+unfolding writtenBy
 directions-collide = refl
+
+-- by document 01's rule, that two directions are the same, one for both ways could stand beside one for one way
+directions-before : map (λ d. toldBy (record { placeOf = fieldPlace; collides = collidesBy eqb }) (132 ∷ 1 ∷ 24 ∷ 0 ∷ 132 ∷ d ∷ 24 ∷ 0 ∷ 255 ∷ [])) (0 ∷ 1 ∷ 2 ∷ [])
+    ≡ (0 ∷ 106 ∷ []) ∷ (10 ∷ 82 ∷ []) ∷ (0 ∷ 106 ∷ []) ∷ []
+unfolding writtenBy
+directions-before = refl
 
 -- ETCS-132 three times: 0, 1 and then 2; with an ETCS-137 for both ways between 0 and 2; Q_DIR 3 for the second; ETCS-44 twice with Q_DIR 1,
 -- and with 2 and 1; ETCS-132 and ETCS-137 with Q_DIR 1
@@ -68,7 +81,7 @@ collisions : map told
     ∷ (44 ∷ 1 ∷ 48 ∷ 5 ∷ 1 ∷ 25 ∷ 0 ∷ 44 ∷ 1 ∷ 48 ∷ 5 ∷ 1 ∷ 25 ∷ 0 ∷ 255 ∷ []) ∷ (44 ∷ 2 ∷ 48 ∷ 5 ∷ 2 ∷ 25 ∷ 0 ∷ 44 ∷ 1 ∷ 48 ∷ 5 ∷ 1 ∷ 25 ∷ 0 ∷ 255 ∷ [])
     ∷ (132 ∷ 1 ∷ 24 ∷ 0 ∷ 137 ∷ 1 ∷ 24 ∷ 1 ∷ 255 ∷ []) ∷ [])
     ≡ (10 ∷ 106 ∷ []) ∷ (10 ∷ 106 ∷ []) ∷ (7 ∷ 82 ∷ []) ∷ (0 ∷ 154 ∷ []) ∷ (0 ∷ 154 ∷ []) ∷ (0 ∷ 106 ∷ []) ∷ []
-unfolding written
+unfolding writtenBy
 collisions = refl
 
 -- ETCS-68 both ways; a value past its width; ETCS-27 with inner lists of 0 and 2; a missing value before one that is too wide
@@ -76,7 +89,7 @@ ways-and-lists : map told
     ((68 ∷ 1 ∷ 41 ∷ 1 ∷ 1 ∷ 7 ∷ 255 ∷ []) ∷ (68 ∷ 1 ∷ 65 ∷ 1 ∷ 0 ∷ 7 ∷ 8 ∷ 9 ∷ 0 ∷ 255 ∷ []) ∷ (132 ∷ 4 ∷ [])
     ∷ (27 ∷ 1 ∷ 108 ∷ 1 ∷ 7 ∷ 8 ∷ 0 ∷ 0 ∷ 1 ∷ 7 ∷ 8 ∷ 0 ∷ 2 ∷ 0 ∷ 5 ∷ 2 ∷ 6 ∷ 255 ∷ []) ∷ (132 ∷ 1 ∷ []) ∷ [])
     ≡ (0 ∷ 99 ∷ []) ∷ (0 ∷ 123 ∷ []) ∷ (12 ∷ 58 ∷ []) ∷ (0 ∷ 166 ∷ []) ∷ (5 ∷ 60 ∷ []) ∷ []
-unfolding written
+unfolding writtenBy
 ways-and-lists = refl
 
 -- ---- the entries of a telegram: their names and places
@@ -91,10 +104,10 @@ namesOf (refused r) = []
 
 end-mark-named : namesOf (written (1 ∷ 16 ∷ 0 ∷ 0 ∷ 1 ∷ 0 ∷ 255 ∷ 9 ∷ 3007 ∷ 1 ∷ 254 ∷ 2 ∷ 23 ∷ 255 ∷ []))
     ≡ "Q_UPDOWN" ∷ "M_VERSION" ∷ "Q_MEDIA" ∷ "N_PIG" ∷ "N_TOTAL" ∷ "M_DUP" ∷ "M_MCOUNT" ∷ "NID_C" ∷ "NID_BG" ∷ "Q_LINK" ∷ "NID_PACKET" ∷ "Q_DIR" ∷ "L_PACKET" ∷ "END" ∷ []
-unfolding written
+unfolding writtenBy
 end-mark-named = refl
 
 fields-begin : placesOf (written (1 ∷ 16 ∷ 0 ∷ 0 ∷ 1 ∷ 0 ∷ 255 ∷ 9 ∷ 3007 ∷ 1 ∷ 254 ∷ 2 ∷ 23 ∷ 255 ∷ []))
     ≡ 0 ∷ 1 ∷ 8 ∷ 9 ∷ 12 ∷ 15 ∷ 17 ∷ 25 ∷ 35 ∷ 49 ∷ 50 ∷ 58 ∷ 60 ∷ 73 ∷ []
-unfolding written
+unfolding writtenBy
 fields-begin = refl

@@ -7,7 +7,7 @@ use Rattle.format.specs.Telegrams.{Result, values, valuesIn}
 use Rattle.format.specs.Telegrams.Result.{accepted, refused}
 use Rattle.format.specs.Normal.{Said, says, saysUnder, normal, normalUnder}
 use Rattle.format.specs.Normal.Said.{sent, apart, long}
-use Rattle.format.specs.Examples.{written}
+use Rattle.format.specs.Examples.{writtenBy, written}
 
 abbrev head : List ℕ
 head = 1 ∷ 16 ∷ 0 ∷ 0 ∷ 1 ∷ 0 ∷ 255 ∷ 9 ∷ 3007 ∷ 1 ∷ []
@@ -23,7 +23,7 @@ is vs = head ++ (vs ++ (255 ∷ []))
 
 -- the values of the normal form of the telegram with these packets
 unfoldable normalOf : List ℕ → List ℕ
-unfolding written normalUnder valuesIn
+unfolding writtenBy normalUnder valuesIn
 normalOf vs = valuesOf (written (is vs))
 
 -- ETCS-44 with CTCS-3: Q_SCALE, D_STARTREVERSE, L_REVERSEAREA
@@ -79,7 +79,7 @@ saidIn (refused r) = []
 
 -- what the telegram with these packets says
 unfoldable saidBy : List ℕ → List Said
-unfolding written saysUnder
+unfolding writtenBy saysUnder
 saidBy vs = saidIn (written (is vs))
 
 -- "50 at 10 m and 500 at 1 m say the same"; an unlimited text does at every scale

@@ -69,7 +69,7 @@ body-elsewhere k =
       unruled = λ e l. subst (λ r. T (ofBody r)) e k;
     }
 
--- a rule other than that of Q_DIR
+-- an L_PACKET makes no packet
 size-elsewhere : {es : List Entry} {c : Context} → Elsewhere es L-PACKET c
 size-elsewhere =
     record {
@@ -78,6 +78,7 @@ size-elsewhere =
       unruled = λ e l. let z : _≡_ {A = ℕ} 0 1 = cc in omega arith;
     }
 
+-- an NID_XUSER makes no packet
 user-elsewhere : {es : List Entry} {c : Context} → Elsewhere es NID-XUSER c
 user-elsewhere =
     record {

@@ -33,7 +33,7 @@ pub record Changed (strong : ℕ → ℕ → Bool) (before now : Result) : Type 
   pub still : (r : Refusal) → now ≡ refused r → (before ≡ refused r) ⊎ (r .kind ≡ Repeated)
 
 -- an answer is not of both sorts
-not-both : {A : Type 0} {a : Result} {es : List Entry} {r : Refusal} → a ≡ accepted es → a ≡ refused r → A
+pub not-both : {A : Type 0} {a : Result} {es : List Entry} {r : Refusal} → a ≡ accepted es → a ≡ refused r → A
 not-both e f = let z : _≡_ {A = ℕ} 0 1 = cc in absurd (omega arith)
 
 module _ (weak strong : ℕ → ℕ → Bool) (implies : (d e : ℕ) → weak d e ≡ true → strong d e ≡ true) where

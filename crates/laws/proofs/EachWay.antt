@@ -44,7 +44,7 @@ unfolding clash
 clash-symmetric d e = rw (eqb-symmetric d e, or-comm (eqb d 2) (eqb e 2))
 
 -- directions that a train running some way gets both collide
-pub served-clash : (way d e : ℕ) → serves d way ≡ true → serves e way ≡ true → clash d e ≡ true
+served-clash : (way d e : ℕ) → serves d way ≡ true → serves e way ≡ true → clash d e ≡ true
 unfolding clash
 served-clash way d e h k = by-tests (eqb d 2) (eqb e 2) (eqb d way) (eqb e way) refl refl h k
   where

@@ -71,13 +71,13 @@ module _ (c : Context) (at v : ℕ) where
 
 -- nothing is added to them, at any field but the Q_DIR of a packet
 module _ (c : Context) (at v : ℕ) where
-  pub kept-size : (l : Level) → c .level ≡ l → noted size c at v .earlier ≡ c .earlier
+  kept-size : (l : Level) → c .level ≡ l → noted size c at v .earlier ≡ c .earlier
   unfolding noted
   kept-size inHeader e = rw e
   kept-size inPacket e = rw e
   kept-size inUser e = rw e
 
-  pub kept-direction : (l : Level) → c .level ≡ l → (l ≡ inPacket → ⊥) → noted direction c at v .earlier ≡ c .earlier
+  kept-direction : (l : Level) → c .level ≡ l → (l ≡ inPacket → ⊥) → noted direction c at v .earlier ≡ c .earlier
   unfolding noted
   kept-direction inHeader e n = rw e
   kept-direction inPacket e n = absurd (n refl)

@@ -30,7 +30,7 @@ use Rattle.laws.proofs.Pairs.Newest.{old, new}
 use Rattle.laws.proofs.Awaited.{Awaits, awaits}
 use Rattle.laws.proofs.Awaited.Awaits.{begins, directs, goes-by}
 
--- what a context recalls of entries: the packets that a packet meets by any rule of directions, and the NID_PACKET that was sent last
+-- what a context recalls of entries: the packets that a packet meets, by any rule of directions; and their NID_PACKET, where they end in one
 pub record Recalls (es : List Entry) (c : Context) : Type 0 where
   pub met : (collide : ℕ → ℕ → Bool) (i d : ℕ) → (among collide i d (c .earlier) ≡ true) ↔ Met collide es i d
   pub identifies : (b : List Entry) (n : ℕ) → es ≡ b ++ (holding NID-PACKET n ∷ []) → c .id ≡ n
@@ -87,7 +87,7 @@ module _ (collide : ℕ → ℕ → Bool) (i d : ℕ) where
             rw (eq-eqb i n en, ev, h .collides)
 
     -- so with a packet more, just the packets that were sent are recalled
-    pub met-made : (among collide i d (record { id = n; dir = v } ∷ l) ≡ true) ↔ Met collide (es ++ (holding Q-DIR v ∷ [])) i d
+    met-made : (among collide i d (record { id = n; dir = v } ∷ l) ≡ true) ↔ Met collide (es ++ (holding Q-DIR v ∷ [])) i d
     met-made = (λ h. more-met (eqb i n) (collide d v) refl refl (sym (among-more n v l) ∙ h), λ h. among-more n v l ∙ met-more h)
 
 -- ---- one field more
@@ -104,7 +104,8 @@ module _ (es : List Entry) (s : State) (v : ℕ) where
 
   -- the fields that make no packet leave what is met as it was
   met-kept : after .earlier ≡ s .context .earlier
-      → ((m : ℕ) → entry s v ≡ holding Q-DIR m → (b : List Entry) (n : ℕ) → es ≡ b ++ (holding NID-PACKET n ∷ []) → ⊥) → Recalls es (s .context) → (collide : ℕ → ℕ → Bool) (i d : ℕ)
+      → ((m : ℕ) → entry s v ≡ holding Q-DIR m → (b : List Entry) (n : ℕ) → es ≡ b ++ (holding NID-PACKET n ∷ []) → ⊥)
+      → Recalls es (s .context) → (collide : ℕ → ℕ → Bool) (i d : ℕ)
       → (among collide i d (after .earlier) ≡ true) ↔ Met collide (es ++ (entry s v ∷ [])) i d
   met-kept k never h collide i d =
       rw k (
@@ -131,7 +132,7 @@ module _ (es : List Entry) (s : State) (v : ℕ) where
       met-kept (kept (s .context) (s .at) v _ (w .unruled))
       (λ m e b n j. w .undirected (sym (named-due (s .todo) v g) ∙ ap (λ (x : Entry). x .field) e) b n j) h
 
-  -- where the entry is a NID_PACKET, a packet begins: its number is noted, and it has fields to come
+  -- a NID_PACKET is sent only where nothing else is left to send
   pub named-begins : Awaits es s → named (s .todo) v ≡ NID-PACKET → s .todo ≡ end
   named-begins (begins t) e = t
   named-begins (directs g f l b n j) e = absurd (apart Q-DIR NID-PACKET refl (sym f ∙ sym (named-due (s .todo) v g) ∙ e))
@@ -141,7 +142,7 @@ module _ (es : List Entry) (s : State) (v : ℕ) where
   last-named : (b : List Entry) (n : ℕ) → es ++ (entry s v ∷ []) ≡ b ++ (holding NID-PACKET n ∷ []) → entry s v ≡ holding NID-PACKET n
   last-named b n e = one-end es b (entry s v) (holding NID-PACKET n) e .1
 
-  -- the NID_PACKET that was sent last is noted
+  -- a NID_PACKET is noted as it is sent
   identifies-next : Awaits es s → (b : List Entry) (n : ℕ) → es ++ (entry s v ∷ []) ≡ b ++ (holding NID-PACKET n ∷ []) → after .id ≡ n
   identifies-next a b n e =
       let l = last-named b n e in
@@ -158,7 +159,7 @@ module _ (es : List Entry) (s : State) (v : ℕ) where
       going-on u (rw (hd .is) tt) q
 
   -- one field more, and the context recalls just what was sent
-  pub recalls-next : (p : Terms) (t : Items) (c : Context) → Awaits es s → Recalls es (s .context) → step p s v ≡ go t c
+  recalls-next : (p : Terms) (t : Items) (c : Context) → Awaits es s → Recalls es (s .context) → step p s v ≡ go t c
       → Recalls (es ++ (entry s v ∷ [])) c
   recalls-next p t c a h e = by-way (stepped p s v) e
     where

@@ -101,7 +101,7 @@ lenient place = record { placeOf = place; collides = λ c v. false }
 
 module _ (place : Kind → State → ℕ → ℕ) (collide : ℕ → ℕ → Bool) where
   -- a run that halts has a pair
-  pub halted-pair : {es : List Entry} → Halted (ruled place collide) es → Pair collide es
+  halted-pair : {es : List Entry} → Halted (ruled place collide) es → Pair collide es
   halted-pair h = subst (Pair collide) (sym (h .parts)) (pair-grown (repeated-pair place collide (h .sends) (h .repeats) .pair) (h .left))
 
   -- what a weaker rule accepts and has no pair is accepted

@@ -111,7 +111,7 @@ module _ (collide : ℕ → ℕ → Bool) {source : State → List ℕ → Taken
         last = w .last;
       }
 
-  pointed-repeats : {r : Refusal} → Pointed (directing collide) source part whole r → r .kind ≡ Repeated → Repeats collide source part whole r
+  pub pointed-repeats : {r : Refusal} → Pointed (directing collide) source part whole r → r .kind ≡ Repeated → Repeats collide source part whole r
   pointed-repeats h = by-points (h .points)
     where
       by-points : {r : Refusal} → Points (directing collide) source (h .sent) (h .state) (h .left) r → r .kind ≡ Repeated

@@ -20,6 +20,7 @@ use Rattle.states.specs.Labels.{numbers}
 use Rattle.sheet.specs.Reading.{Rows, sheetIn}
 use Rattle.sheet.specs.Reading.Rows.{rows, bad}
 use Rattle.sheet.specs.Sheets.{exported, Imported, otherName, named, judged, onSheet, imported, importInto}
+use Rattle.sheet.proofs.Pointing.{by-writer}
 use Rattle.sheet.specs.Sheets.Imported.{taken, refusedBy, refusedAt}
 
 -- an import before, and now by the stricter rule
@@ -47,14 +48,6 @@ module _ (rs : List Entry) where
       by-names none i h = let j : fs ≡ es = cc in (cc, rw (← j, i))
       by-names (some k) i h = let z : _≡_ {A = ℕ} 0 1 = cc in absurd (omega arith)
 
-  refused-is : (a : Result) (r : Refusal) → judged rs a ≡ refusedBy r → a ≡ refused r
-  refused-is (refused q) r e = cc
-  refused-is (accepted es) r e = by-names (otherName 0 (numbers rs) (numbers es)) e
-    where
-      by-names : (o : Option ℕ) → named o es ≡ refusedBy r → accepted es ≡ refused r
-      by-names none h = cc
-      by-names (some k) h = cc
-
   row-is : (a : Result) (k : ℕ) → judged rs a ≡ refusedAt k → (es : List Entry) × (a ≡ accepted es)
   row-is (refused r) k e = let z : _≡_ {A = ℕ} 0 1 = cc in absurd (omega arith)
   row-is (accepted es) k e = (es, refl)
@@ -67,11 +60,11 @@ module _ (rs : List Entry) where
           λ e. let h = taken-is a es (e .0) in rw (c .accepts es .1 (h .0, e .1)) (h .1),
         );
         turns = λ es e. let h = taken-is a es e in (
-          λ r. c .turns es (h .0) .0 (r .0, refused-is b (r .0) (r .1)),
+          λ r. c .turns es (h .0) .0 (r .0, by-writer (r .0) rs b (r .1)),
           λ k. let r = c .turns es (h .0) .1 k in (r .0, rw (r .1)),
         );
-        there = λ es r e f. c .there es r (taken-is a es e .0) (refused-is b r f);
-        still = λ r e. ⊎-elim (λ h. inl (rw h)) inr (c .still r (refused-is b r e));
+        there = λ es r e f. c .there es r (taken-is a es e .0) (by-writer r rs b f);
+        still = λ r e. ⊎-elim (λ h. inl (rw h)) inr (c .still r (by-writer r rs b e));
         still-row = λ k e. let h = row-is b k e in rw (c .accepts (h .0) .0 (h .1) .0) (rw (h .1) at e);
       }
 

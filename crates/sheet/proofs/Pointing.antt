@@ -21,7 +21,7 @@ use Rattle.states.proofs.Pointing.{not-room, room-passed, check-pointed}
 use Rattle.sheet.specs.Reading.{Rows, sheetIn}
 use Rattle.sheet.specs.Reading.Rows.{rows, bad}
 use Rattle.sheet.specs.Sheets.{exported, Imported, otherName, named, judged, onSheet, imported, importInto}
-use Rattle.sheet.specs.Sheets.Imported.{taken, refusedBy, refusedAt}
+use Rattle.sheet.specs.Sheets.Imported.{refusedBy}
 use Rattle.states.specs.Labels.{numbers}
 use mathlib.Core.Option.{Option, some, none}
 
@@ -31,6 +31,16 @@ pub record InColumn (collides : Context → ℕ → Bool) (text : List ℕ) (r :
   pub is : sheetIn text ≡ rows read
   pub pointed : Pointed (pointing collides) fromValues valuesIn (values read) r
 
+-- a refusal of the library's is the writer's
+module _ (r : Refusal) where
+  named-never : (o : Option ℕ) (es : List Entry) → named o es ≡ refusedBy r → ⊥
+  named-never none es e = let z : _≡_ {A = ℕ} 0 1 = cc in omega arith
+  named-never (some k) es e = let z : _≡_ {A = ℕ} 0 1 = cc in omega arith
+
+  pub by-writer : (rs : List Entry) (a : Result) → judged rs a ≡ refusedBy r → a ≡ refused r
+  by-writer rs (refused q) e = cc
+  by-writer rs (accepted es) e = absurd (named-never (otherName 0 (numbers rs) (numbers es)) es e)
+
 module _ (collides : Context → ℕ → Bool) (r : Refusal) (late : 3 < numberOf (r .kind)) where
   pub export-pointed : (s : List ℕ) (n room : ℕ) → exported (pointing collides) s n room ≡ refused r
       → Pointed (pointing collides) fromBits bitsIn (take n (bitsOf s)) r
@@ -38,19 +48,10 @@ module _ (collides : Context → ℕ → Bool) (r : Refusal) (late : 3 < numberO
   export-pointed s n room e =
       check-pointed collides r late s n (room-passed (leb 65536 room) (checked (pointing collides) s n) r late e)
 
-  -- a refusal of the library's is the writer's
-  named-never : (o : Option ℕ) (es : List Entry) → named o es ≡ refusedBy r → ⊥
-  named-never none es e = let z : _≡_ {A = ℕ} 0 1 = cc in omega arith
-  named-never (some k) es e = let z : _≡_ {A = ℕ} 0 1 = cc in omega arith
-
-  by-writer : (rs : List Entry) (a : Result) → judged rs a ≡ refusedBy r → a ≡ refused r
-  by-writer rs (refused q) e = cc
-  by-writer rs (accepted es) e = absurd (named-never (otherName 0 (numbers rs) (numbers es)) es e)
-
   by-rows : (text : List ℕ) (x : Rows) → sheetIn text ≡ x → onSheet (pointing collides) x ≡ refusedBy r → InColumn collides text r
   by-rows text (bad k) i e = let z : _≡_ {A = ℕ} 0 1 = cc in absurd (omega arith)
   by-rows text (rows rs) i e =
-      record { read = rs; is = i; pointed = write-pointed collides (values rs) r (by-writer rs (write (pointing collides) (values rs)) e) }
+      record { read = rs; is = i; pointed = write-pointed collides (values rs) r (by-writer r rs (write (pointing collides) (values rs)) e) }
 
   by-room : (test : Bool) (a : Imported) → cond test a (refusedBy (record { kind = Room; place = 0 })) ≡ refusedBy r → a ≡ refusedBy r
   by-room true a e = e

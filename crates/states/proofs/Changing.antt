@@ -1,44 +1,43 @@
--- What a stricter rule of directions changes in the answers of check, reader, writer, label and normaliser: a telegram that was accepted is
--- refused just where it has a pair, as 10 at its first. And that an accepted telegram gives each train one packet of a kind. Assumes nothing.
+-- What a stricter rule of directions changes in the answers of check, reader, writer and label, and so of the normaliser: a telegram that was
+-- accepted is refused just where it has a pair, as 10 at its first. And that what is accepted gives a train running either way at most one packet
+-- of each kind but ETCS-44. Assumes nothing.
 use mathlib.Core.Bool.{Bool, true, false, cond}
 use mathlib.Core.List.{List}
 use mathlib.Core.Logic.{_↔_, inl}
-use mathlib.Core.Path.{_≡_, refl}
+use mathlib.Core.Path.{_≡_, refl, sym, ap, _∙_}
 use Prim.Native.Nat.{ℕ}
 use native.Mathlib.Omega.{arith}
 use lib.Dec.{eqb, leb}
 use lib.ListN.{take}
 use Rattle.bits.specs.Bits.{bitsOf}
-use Rattle.format.specs.Rules.{Terms, clash, paper}
-use Rattle.format.specs.Telegrams.{Entry, Result, write}
+use Rattle.format.specs.Normal.{normal}
+use Rattle.format.specs.Rules.{Terms, clash, collidesBy, paper}
+use Rattle.format.specs.Telegrams.{Entry, Result, fromBits, fromValues, bitsIn, valuesIn, write}
 use Rattle.format.specs.Telegrams.Result.{accepted, refused}
 use Rattle.format.specs.declared.Kind.{Kind}
-use Rattle.format.specs.declared.Kind.the-variants.{Room, Size, Padding}
+use Rattle.format.specs.declared.Kind.the-variants.{Room, Size, Padding, Repeated}
 use Rattle.format.specs.declared.Refusal.{Refusal}
 use Rattle.laws.proofs.Demand2.{write-is}
-use Rattle.laws.proofs.Pairs.{PacketIn, serves}
-use Rattle.laws.proofs.EachWay.{one-each-way}
-use Rattle.laws.proofs.Tens.{directing}
-use Rattle.laws.proofs.Changed.{Changed, read-changed, write-changed}
-use Rattle.laws.proofs.BothWays.{same-clash}
+use Rattle.laws.proofs.EachWay.{OneEachWay, one-each-way}
+use Rattle.laws.proofs.Tens.{directing, Repeats, pointed-repeats}
+use Rattle.laws.proofs.Changed.{Changed, not-both, read-changed, write-changed}
+use Rattle.laws.proofs.BothWays.{Mixed, same-clash, turned-mixed}
 use Rattle.states.specs.Labels.{labelInto}
 use Rattle.states.specs.Normaliser.{normalOf, normaliseInto}
 use Rattle.states.specs.Reader.{sized, clear, atOnce, checked, readInto}
 use Rattle.states.specs.Writer.{writeInto}
 use Rattle.states.proofs.Answers.{sent-below, sent-few, check-judges}
+use Rattle.states.proofs.Pointing.{normal-refused, check-pointed, writer-pointed}
 
 -- ---- a test before it, whose refusal does not change
 
--- what is refused is not accepted
-not-accepted : {A : Type 0} {r : Refusal} {es : List Entry} → refused r ≡ accepted es → A
-not-accepted e = let z : _≡_ {A = ℕ} 0 1 = cc in absurd (omega arith)
-
+-- what is refused either way
 refused-changed : (strong : ℕ → ℕ → Bool) (r : Refusal) → Changed strong (refused r) (refused r)
 refused-changed strong r =
     record {
-      accepts = λ es. (λ e. not-accepted e, λ h. not-accepted (h .0));
-      turns = λ es e. not-accepted e;
-      there = λ es q e. not-accepted e;
+      accepts = λ es. (λ e. not-both e refl, λ h. not-both (h .0) refl);
+      turns = λ es e. not-both e refl;
+      there = λ es q e. not-both e refl;
       still = λ q e. inl e;
     }
 
@@ -68,15 +67,25 @@ module _ (weak strong : ℕ → ℕ → Bool) (implies : (d e : ℕ) → weak d 
   unfolding labelInto
   label-changed vs room = tested-changed (leb 830 room) Room (λ i. write-changed weak strong implies vs)
 
--- the normaliser, lent enough, refuses what the check refuses, in the same way
-pub normaliser-refuses : (p : Terms) (s : List ℕ) (n room : ℕ) → leb 104 room ≡ true → (r : Refusal)
-    → (normaliseInto p s n room ≡ refused r) ↔ (checked p s n ≡ refused r)
-unfolding normaliseInto
-normaliser-refuses p s n room h r = rw h (by-answer (checked p s n))
-  where
-    by-answer : (a : Result) → (normalOf a ≡ refused r) ↔ (a ≡ refused r)
-    by-answer (accepted es) = (λ e. cc, λ e. cc)
-    by-answer (refused q) = (λ e. e, λ e. e)
+-- the normaliser, lent enough, refuses what the check refuses and in the same way, and gives the normal form of what the check accepts
+module _ (p : Terms) (s : List ℕ) (n room : ℕ) (lent : leb 104 room ≡ true) where
+  is-normal : normaliseInto p s n room ≡ normalOf (checked p s n)
+  unfolding normaliseInto
+  is-normal = rw lent
+
+  pub normaliser-refuses : (r : Refusal) → (normaliseInto p s n room ≡ refused r) ↔ (checked p s n ≡ refused r)
+  normaliser-refuses r = (λ e. normal-refused (checked p s n) r (sym is-normal ∙ e), λ e. is-normal ∙ ap normalOf e)
+
+  pub normaliser-accepts : (fs : List Entry)
+      → (normaliseInto p s n room ≡ accepted fs) ↔ ((es : List Entry) × ((checked p s n ≡ accepted es) × (fs ≡ normal es)))
+  normaliser-accepts fs = (
+    λ e. by-answer (checked p s n) (sym is-normal ∙ e),
+    λ h. is-normal ∙ ap normalOf (h .1 .0) ∙ ap accepted (sym (h .1 .1)),
+  )
+    where
+      by-answer : (a : Result) → normalOf a ≡ accepted fs → (es : List Entry) × ((a ≡ accepted es) × (fs ≡ normal es))
+      by-answer (accepted es) e = (es, (refl, cc))
+      by-answer (refused r) e = not-both e refl
 
 -- ---- "From now on 2 collides with 0, 1 and 2"
 
@@ -86,19 +95,32 @@ check-both-ways = check-changed eqb clash same-clash
 pub writer-both-ways : (vs : List ℕ) (room : ℕ) → Changed clash (writeInto (directing eqb) vs room) (writeInto paper vs room)
 writer-both-ways = writer-changed eqb clash same-clash
 
+-- what the check accepted before and refuses now is just what has a packet for both ways and one of its kind for one way
+pub check-turned : (s : List ℕ) (n : ℕ) (es : List Entry) → checked (directing eqb) s n ≡ accepted es
+    → ((r : Refusal) × (checked paper s n ≡ refused r)) ↔ Mixed es
+check-turned s n es h = turned-mixed (check-both-ways s n) (check-judges (directing eqb) s n .accepts es .0 h .telegram) h
+
+-- what a 10 of the check is
+pub check-repeats : (collide : ℕ → ℕ → Bool) (s : List ℕ) (n : ℕ) (r : Refusal) → checked (directing collide) s n ≡ refused r → r .kind ≡ Repeated
+    → Repeats collide fromBits bitsIn (take n (bitsOf s)) r
+check-repeats collide s n r e k = pointed-repeats collide (check-pointed (collidesBy collide) r (rw k (omega arith)) s n e) k
+
+-- and of the writer
+pub writer-repeats : (collide : ℕ → ℕ → Bool) (vs : List ℕ) (room : ℕ) (r : Refusal) → writeInto (directing collide) vs room ≡ refused r
+    → r .kind ≡ Repeated → Repeats collide fromValues valuesIn vs r
+writer-repeats collide vs room r e k = pointed-repeats collide (writer-pointed (collidesBy collide) r (rw k (omega arith)) vs room e) k
+
 -- ---- clause 5.1.5 of what is accepted
 
 -- what the check accepts gives a train running either way at most one packet of each kind but ETCS-44
-pub accepted-one-each-way : (s : List ℕ) (n : ℕ) {es : List Entry} → checked paper s n ≡ accepted es → (way id d e : ℕ) → (id ≡ 44 → ⊥)
-    → (h : PacketIn es id d) (k : PacketIn es id e) → serves d way ≡ true → serves e way ≡ true → (h .before ≡ k .before) × (d ≡ e)
+pub accepted-one-each-way : (s : List ℕ) (n : ℕ) {es : List Entry} → checked paper s n ≡ accepted es → OneEachWay es
 accepted-one-each-way s n {es} a = one-each-way (check-judges paper s n .accepts es .0 a .telegram)
 
 -- and so does what the writer accepts
-pub written-one-each-way : (vs : List ℕ) (room : ℕ) {es : List Entry} → writeInto paper vs room ≡ accepted es → (way id d e : ℕ) → (id ≡ 44 → ⊥)
-    → (h : PacketIn es id d) (k : PacketIn es id e) → serves d way ≡ true → serves e way ≡ true → (h .before ≡ k .before) × (d ≡ e)
+pub written-one-each-way : (vs : List ℕ) (room : ℕ) {es : List Entry} → writeInto paper vs room ≡ accepted es → OneEachWay es
 unfolding writeInto
 written-one-each-way vs room {es} a = one-each-way (write-is paper vs es (by-room (leb 104 room) a) .0)
   where
     by-room : (test : Bool) → cond test (write paper vs) (atOnce Room) ≡ accepted es → write paper vs ≡ accepted es
     by-room true e = e
-    by-room false e = not-accepted e
+    by-room false e = not-both e refl

@@ -107,10 +107,13 @@ earlier-grown s l v d =
 
 -- ---- and kept in the array
 
-among-last : (collide : ℕ → ℕ → Bool) (i d x : ℕ) (xs : List ℕ) → among collide i d (packetsIn (xs ++ (x ∷ []))) ≡ (eqb i (x / 4) && collide d (x % 4) || among collide i d (packetsIn xs))
+among-last : (collide : ℕ → ℕ → Bool) (i d x : ℕ) (xs : List ℕ)
+    → among collide i d (packetsIn (xs ++ (x ∷ []))) ≡ (eqb i (x / 4) && collide d (x % 4) || among collide i d (packetsIn xs))
 unfolding among
 among-last collide i d x [] = refl
-among-last collide i d x (y ∷ xs) = rw (among-last collide i d x xs) (swapped (eqb i (y / 4) && collide d (y % 4)) (eqb i (x / 4) && collide d (x % 4)) (among collide i d (packetsIn xs)))
+among-last collide i d x (y ∷ xs) =
+    rw (among-last collide i d x xs)
+    (swapped (eqb i (y / 4) && collide d (y % 4)) (eqb i (x / 4) && collide d (x % 4)) (among collide i d (packetsIn xs)))
   where
     swapped : (a b e : Bool) → (a || (b || e)) ≡ (b || (a || e))
     swapped true true e = refl

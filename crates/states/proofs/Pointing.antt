@@ -36,7 +36,8 @@ pub room-passed : (test : Bool) (a : Result) (r : Refusal) → 3 < numberOf (r .
 room-passed true a r l e = e
 room-passed false a r l e = absurd (not-room r (cc) l)
 
-normal-refused : (a : Result) (r : Refusal) → normalOf a ≡ refused r → a ≡ refused r
+-- the normaliser refuses what the check refuses
+pub normal-refused : (a : Result) (r : Refusal) → normalOf a ≡ refused r → a ≡ refused r
 normal-refused (accepted es) r e = cc
 normal-refused (refused q) r e = e
 
