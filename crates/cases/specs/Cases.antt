@@ -1,5 +1,5 @@
--- Document 01, "Worked telegrams", the proved group, and what it says of scales beside it: one table of claims about the definitions.
--- Definitions alone.
+-- Document 01, "Worked telegrams", the proved group, and what it says of scales and of repeated packets beside it; and request 3's own pair:
+-- one table of claims about the definitions. Definitions alone.
 use mathlib.Core.Bool.{Bool, true, false, not, _&&_}
 use mathlib.Core.List.{List, [], _∷_, _++_}
 use Prim.Native.Nat.{ℕ, zero, suc, _+_}
