@@ -32,6 +32,7 @@ use Rattle.again.specs.Normals.{againIn, Renormalised, same, alike, Says
 use Rattle.again.specs.declared.normals.Alike.{Alike}
 use Rattle.again.specs.declared.normals.Alike.the-variants.{Same, Other, First, Second}
 use Rattle.states.proofs.Accepting.{sent, bytes-long, sound}
+use Rattle.states.proofs.Pointing.{room-given, normal-given}
 
 -- ---- lists compared
 
@@ -67,21 +68,13 @@ same-bytes bs cs b c l h =
 
 -- ---- an accepted normal form
 
-by-room : (t : Bool) (q : Result) (fs : List Entry) → cond t q (atOnce Room) ≡ accepted fs → q ≡ accepted fs
-by-room true q fs h = h
-by-room false q fs h = let z : _≡_ {A = ℕ} 0 1 = cc in absurd (omega arith)
-
-by-check : (q : Result) (fs : List Entry) → normalOf q ≡ accepted fs → (es : List Entry) × (q ≡ accepted es) × (fs ≡ normal es)
-by-check (accepted es) fs h = (es, refl, cc)
-by-check (refused r) fs h = let z : _≡_ {A = ℕ} 0 1 = cc in absurd (omega arith)
-
 module _ (p : Terms) (s : List ℕ) (n : ℕ) (x x-after : List ℕ) where
   abbrev form : Result
   form = normaliseInto p s n (length x)
 
   normal-of : (fs : List Entry) → form ≡ accepted fs → (es : List Entry) × (checked p s n ≡ accepted es) × (fs ≡ normal es)
   unfolding normaliseInto
-  normal-of fs h = by-check (checked p s n) fs (by-room (leb 104 (length x)) (normalOf (checked p s n)) fs h)
+  normal-of fs h = normal-given (checked p s n) fs (room-given (leb 104 (length x)) (normalOf (checked p s n)) fs h)
 
   -- the telegram that s is, its normal form, and that x holds it
   pub record Formed (k : ℕ) : Type 0 where

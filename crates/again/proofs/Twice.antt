@@ -22,6 +22,7 @@ use Rattle.states.specs.Writer.{writeInto, sizeOf, bytesOver, Write}
 use Rattle.states.proofs.Answers.{check-judges, read-judges, answer-accepted, answer-refused, Stored, accepted-stores}
 use Rattle.states.proofs.Accepting.{sent, same-bytes, bytes-long, checks}
 use Rattle.states.proofs.Checking.{AcceptedAs, was-accepted, was-refused}
+use Rattle.states.proofs.Pointing.{room-given}
 use Rattle.again.specs.Again.{againOf, againOver, Rewritten, Reread}
 
 -- ---- the second of the two, given a telegram
@@ -105,13 +106,9 @@ module _ (p : Terms) (vs out run out-after : List ℕ) where
       let f : afterWrite ≡ refused r = was-refused bitCount afterWrite a r (h .answers) e in
       record { answers = rw f e; telegram = h .contents; values = rw f }
 
-  by-room : (es : List Entry) (c : Bool) → cond c (write p vs) (atOnce Room) ≡ accepted es → write p vs ≡ accepted es
-  by-room es true h = h
-  by-room es false h = let z : _≡_ {A = ℕ} 0 1 = cc in absurd (omega arith)
-
   was-written : (es : List Entry) → afterWrite ≡ accepted es → Telegram p es × (vs ≡ values es)
   unfolding writeInto
-  was-written es h = write-is p vs es (by-room es (leb 104 (length out)) h)
+  was-written es h = write-is p vs es (room-given (leb 104 (length out)) (write p vs) es h)
 
   module _ {a : Answer} {n : ℕ} (h : Write p vs out a out-after) (e : a ≡ Accepted n) where
     accepts : AcceptedAs bitCount afterWrite n

@@ -4,7 +4,7 @@ use mathlib.Core.Bool.{Bool, true}
 use mathlib.Core.List.{List, [], _∷_, _++_, append-assoc}
 use mathlib.Core.Option.{some, none}
 use mathlib.Core.Path.{_≡_, refl, sym, ap, _∙_, subst}
-use Prim.Native.Nat.{ℕ}
+use Prim.Native.Nat.{ℕ, _≤_}
 use native.Mathlib.Omega.{arith}
 use lib.Dec.{eqb}
 use Rattle.format.specs.Fields.{Field, NID-PACKET, Q-DIR}
@@ -89,13 +89,20 @@ module _ (place : Kind → State → ℕ → ℕ) (collide : ℕ → ℕ → Boo
       by-due (directs g f l b n j) = rw (named-due (s .todo) v g ∙ f) (collides-pairs b n v j (sends-recalls h) collides)
       by-due (goes-by g w) = absurd (w .unruled (ap (λ (f : Field). ruleOf (f .sense)) (is .0)) (is .1))
 
+  -- and it is one of the three directions: 7 comes before
+  pub repeated-small : {es : List Entry} {s : State} {v : ℕ} → Sends p es s → step p s v ≡ breaks Repeated → v ≤ 2
+  repeated-small {s = s} {v = v} h e =
+      let b = breaks-repeated p s v e in
+      let i = direction-only (offends p s v Repeated (sends-stands h) b) in
+      order-repeated p (s .context) v .0 (rw (i .0) at b) .0
+
   -- ---- no pair is sent
 
-  -- a value that makes a pair is not allowed
-  pair-broken : {es : List Entry} {s : State} {v : ℕ} (b : List Entry) (i d : ℕ) → Sends p es s
-      → broken p (s .context) (ruleOf (field s .sense)) v ≡ none → entry s v ≡ holding Q-DIR d → es ≡ b ++ (holding NID-PACKET i ∷ [])
-      → (i ≡ 44 → ⊥) → Met collide b i d → ⊥
-  pair-broken {es} {s} {v} b i d h e f j not-44 m = by-due (sends-awaits h)
+  -- a value that makes a pair is the Q_DIR of a packet that collides
+  pub pair-collides : {es : List Entry} {s : State} {v : ℕ} (b : List Entry) (i d : ℕ) → Sends p es s → entry s v ≡ holding Q-DIR d
+      → es ≡ b ++ (holding NID-PACKET i ∷ []) → (i ≡ 44 → ⊥) → Met collide b i d
+      → (field s ≡ Q-DIR) × ((s .context .level ≡ inPacket) × (collidesBy collide (s .context) v ≡ true))
+  pair-collides {es} {s} {v} b i d h f j not-44 m = by-due (sends-awaits h)
     where
       r : Recalls es (s .context)
       r = sends-recalls h
@@ -109,13 +116,20 @@ module _ (place : Kind → State → ℕ → ℕ) (collide : ℕ → ℕ → Boo
           let a = r .met collide i d .1 (rw j (met-grown m (holding NID-PACKET i ∷ []))) in
           collides-is collide (s .context) v .1 (λ x. not-44 (sym k ∙ x), rw (k, value-is) a)
 
-      by-due : Awaits es s → ⊥
-      by-due (begins t) = begins-apart (eqb v 255) (rw t at (ap (λ (x : Entry). x .field) f))
-      by-due (directs g w l a n k) =
-          let free = allowed-apart p (s .context) v l (rw w at e) in
-          let z : _≡_ {A = ℕ} 0 1 = cc collides in
-          omega arith
-      by-due (goes-by g w) = w .undirected (sym (named-due (s .todo) v g) ∙ ap (λ (x : Entry). x .field) f) b i j
+      by-due : Awaits es s → (field s ≡ Q-DIR) × ((s .context .level ≡ inPacket) × (collidesBy collide (s .context) v ≡ true))
+      by-due (begins t) = absurd (begins-apart (eqb v 255) (rw t at (ap (λ (x : Entry). x .field) f)))
+      by-due (directs g w l a n k) = (w, (l, collides))
+      by-due (goes-by g w) = absurd (w .undirected (sym (named-due (s .todo) v g) ∙ ap (λ (x : Entry). x .field) f) b i j)
+
+  -- and so it is not allowed
+  pair-broken : {es : List Entry} {s : State} {v : ℕ} (b : List Entry) (i d : ℕ) → Sends p es s
+      → broken p (s .context) (ruleOf (field s .sense)) v ≡ none → entry s v ≡ holding Q-DIR d → es ≡ b ++ (holding NID-PACKET i ∷ [])
+      → (i ≡ 44 → ⊥) → Met collide b i d → ⊥
+  pair-broken {s = s} {v = v} b i d h e f j not-44 m =
+      let w = pair-collides b i d h f j not-44 m in
+      let free = allowed-apart p (s .context) v (rw (w .0) at e) (w .1 .0) in
+      let z : _≡_ {A = ℕ} 0 1 = cc (w .1 .1) in
+      omega arith
 
   -- entries that were sent have no pair
   pub sends-apart : {es : List Entry} {s : State} → Sends p es s → Pair collide es → ⊥

@@ -10,20 +10,19 @@ use borrow.Author.Tests.{eqb-true, eq-eqb}
 use lib.Dec.{eqb}
 use lib.ListN.{length}
 use Rattle.bits.specs.Bits.{Below}
-use Rattle.format.specs.Rules.{State, clash, fieldPlace, paper}
+use Rattle.format.specs.Rules.{clash, fieldPlace, paper}
 use Rattle.format.specs.Telegrams.{Entry, Result, read, write, Telegram}
 use Rattle.format.specs.Telegrams.Result.{accepted, refused}
-use Rattle.format.specs.declared.Kind.{Kind}
 use Rattle.format.specs.declared.Refusal.{Refusal}
 use Rattle.laws.proofs.Demand2.{read-is, write-is}
-use Rattle.laws.proofs.Pairs.{PacketIn, Pair, packet-grown}
-use Rattle.laws.proofs.Apart.{ruled, telegram-apart}
+use Rattle.laws.proofs.Pairs.{PacketIn, Pair, Implies, packet-grown}
+use Rattle.laws.proofs.Apart.{telegram-apart}
 use Rattle.laws.proofs.EachWay.{telegram-small}
 use Rattle.laws.proofs.Tens.{directing}
 use Rattle.laws.proofs.Changed.{Changed, read-changed, write-changed}
 
 -- directions that are the same collide by either rule
-pub same-clash : (d e : ℕ) → eqb d e ≡ true → clash d e ≡ true
+pub same-clash : Implies eqb clash
 unfolding clash
 same-clash d e h = rw h
 
@@ -45,9 +44,9 @@ pub data Mixed (es : List Entry) : Type 0 where
   both-earlier : {id way : ℕ} → (id ≡ 44 → ⊥) → way ≤ 1 → (h : PacketIn es id way) → PacketIn (h .before) id 2 → Mixed es
 
 -- in a telegram that the old rule accepted, the directions of each pair that collides now differ
-differs : (place : Kind → State → ℕ → ℕ) {es : List Entry} → Telegram (ruled place eqb) es → (h : Pair clash es) → h .dir ≡ h .earlier .other → ⊥
-differs place t h i =
-    telegram-apart place eqb t
+differs : {es : List Entry} → Telegram (directing eqb) es → (h : Pair clash es) → h .dir ≡ h .earlier .other → ⊥
+differs t h i =
+    telegram-apart fieldPlace eqb t
     (record {
       id = h .id;
       dir = h .dir;
@@ -57,8 +56,8 @@ differs place t h i =
     })
 
 -- so that it is such a pair
-pair-mixed : (place : Kind → State → ℕ → ℕ) {es : List Entry} → Telegram (ruled place eqb) es → Pair clash es → Mixed es
-pair-mixed place {es} t h = by-which (clash-both d e (h .earlier .collides) (differs place t h))
+pair-mixed : {es : List Entry} → Telegram (directing eqb) es → Pair clash es → Mixed es
+pair-mixed {es} t h = by-which (clash-both d e (h .earlier .collides) (differs t h))
   where
     d : ℕ
     d = h .dir
@@ -79,9 +78,9 @@ pair-mixed place {es} t h = by-which (clash-both d e (h .earlier .collides) (dif
     by-which : (d ≡ 2) ⊎ (e ≡ 2) → Mixed es
     by-which (inl i) =
         let k = subst (λ (x : ℕ). (g : PacketIn es (h .id) x) × (PacketIn (g .before) (h .id) e)) i (h .later, h .earlier .packet) in
-        both-later (h .not-44) (one-way e earlier-small (λ j. differs place t h (i ∙ sym j))) (k .0) (k .1)
+        both-later (h .not-44) (one-way e earlier-small (λ j. differs t h (i ∙ sym j))) (k .0) (k .1)
     by-which (inr j) =
-        both-earlier (h .not-44) (one-way d later-small (λ i. differs place t h (i ∙ sym j))) (h .later)
+        both-earlier (h .not-44) (one-way d later-small (λ i. differs t h (i ∙ sym j))) (h .later)
         (subst (λ (x : ℕ). PacketIn (h .later .before) (h .id) x) j (h .earlier .packet))
 
 -- and each such pair collides
@@ -113,7 +112,7 @@ pub turned-mixed : {before now : Result} {es : List Entry} → Changed clash bef
     → ((r : Refusal) × (now ≡ refused r)) ↔ Mixed es
 turned-mixed {es = es} c t h =
     let k = c .turns es h in
-    (λ r. pair-mixed fieldPlace t (k .0 r), λ m. k .1 (mixed-pair m))
+    (λ r. pair-mixed t (k .0 r), λ m. k .1 (mixed-pair m))
 
 pub read-turned : (bs : List ℕ) → Below 2 bs → length bs ≤ 830 → (es : List Entry) → read (directing eqb) bs ≡ accepted es
     → ((r : Refusal) × (read paper bs ≡ refused r)) ↔ Mixed es

@@ -1,6 +1,6 @@
 -- What a stricter rule of directions changes in an answer, for reading and writing alike: what was accepted and has no pair is accepted, what
 -- was accepted and has one is refused as 10 at its first, and all else stays refused. Assumes nothing.
-use mathlib.Core.Bool.{Bool, true}
+use mathlib.Core.Bool.{Bool}
 use mathlib.Core.List.{List}
 use mathlib.Core.Logic.{_↔_, _⊎_, ⊎-elim}
 use mathlib.Core.Path.{_≡_, ap, _∙_, subst}
@@ -14,8 +14,7 @@ use Rattle.format.specs.Telegrams.Result.{accepted, refused}
 use Rattle.format.specs.declared.Kind.the-variants.{Repeated}
 use Rattle.format.specs.declared.Refusal.{Refusal}
 use Rattle.laws.proofs.Refused.{Decides, read-decides, write-decides}
-use Rattle.laws.proofs.Pairs.{Pair}
-use Rattle.laws.proofs.Pairs.Order.{same}
+use Rattle.laws.proofs.Pairs.{Pair, Implies}
 use Rattle.laws.proofs.Apart.{telegram-apart}
 use Rattle.laws.proofs.Mended.{Turned, still-accepted, mended}
 use Rattle.laws.proofs.Tens.{directing, AtFirst}
@@ -36,7 +35,7 @@ pub record Changed (strong : ℕ → ℕ → Bool) (before now : Result) : Type 
 pub not-both : {A : Type 0} {a : Result} {es : List Entry} {r : Refusal} → a ≡ accepted es → a ≡ refused r → A
 not-both e f = let z : _≡_ {A = ℕ} 0 1 = cc in absurd (omega arith)
 
-module _ (weak strong : ℕ → ℕ → Bool) (implies : (d e : ℕ) → weak d e ≡ true → strong d e ≡ true) where
+module _ (weak strong : ℕ → ℕ → Bool) (implies : Implies weak strong) where
   -- ---- from any source
 
   module _ {source : State → List ℕ → Taken} {part : Entry → List ℕ} {xs : List ℕ} {before now : Result}

@@ -2,10 +2,10 @@
 use mathlib.Core.Bool.{Bool, true, false, cond, not, _&&_}
 use mathlib.Core.Logic.{_↔_, _⊎_, inl, inr}
 use mathlib.Core.Option.{Option, some, none}
-use mathlib.Core.Path.{_≡_, refl, subst}
+use mathlib.Core.Path.{_≡_, refl}
 use Prim.Native.Nat.{ℕ, _≤_}
 use native.Mathlib.Omega.{arith}
-use borrow.Author.Tests.{eqb-true, eqb-false, leb-true}
+use borrow.Author.Tests.{eqb-true, eqb-false, leb-true, leb-false}
 use lib.Dec.{eqb, leb}
 use Rattle.format.specs.Fields.{Rule}
 use Rattle.format.specs.Fields.Rule.{any, packet, user, direction, size, pig, total, radio, within}
@@ -15,6 +15,7 @@ use Rattle.format.specs.Rules.Level.{inHeader, inPacket, inUser}
 use Rattle.format.specs.Rules.Next.{go, breaks}
 use Rattle.format.specs.declared.Kind.{Kind}
 use Rattle.format.specs.declared.Kind.the-variants.{Value, Repeated}
+use Rattle.laws.proofs.Order.{order-value, order-repeated}
 use Rattle.laws.proofs.Steps.{Stepped, stepped}
 use Rattle.laws.proofs.Steps.Settled.{on, closed, misfitted}
 use Rattle.laws.proofs.Steps.Stepped.{forbidden, marked, noticed}
@@ -35,25 +36,22 @@ module _ (collide : ℕ → ℕ → Bool) (c : Context) (v : ℕ) where
 
 -- ---- the rule of a Q_DIR
 
-module _ (p : Terms) (c : Context) (v : ℕ) where
-  -- a Q_DIR that is allowed in a packet collides with none
-  pub allowed-apart : c .level ≡ inPacket → broken p c direction v ≡ none → p .collides c v ≡ false
-  unfolding broken misdirected
-  allowed-apart l e = by-tests (leb v 2) (p .collides c v) (subst (λ i. cond (leb v 2) (misdirected p c i v) (some Value) ≡ none) l e)
+module _ (p : Terms) (c : Context) (v : ℕ) (allowed : broken p c direction v ≡ none) where
+  -- a Q_DIR that is allowed is one of three
+  pub allowed-small : v ≤ 2
+  allowed-small = by-test (leb v 2) refl
     where
-      by-tests : (a b : Bool) → cond a (unless (not b) Repeated) (some Value) ≡ none → b ≡ false
-      by-tests true true i = cc
-      by-tests true false i = refl
-      by-tests false b i = cc
+      by-test : (b : Bool) → leb v 2 ≡ b → v ≤ 2
+      by-test true i = leb-true v 2 i
+      by-test false i = let e = order-value p c v .1 (leb-false v 2 i) in let z : _≡_ {A = ℕ} 0 1 = cc in absurd (omega arith)
 
-  -- and is one of three
-  pub allowed-small : broken p c direction v ≡ none → v ≤ 2
-  unfolding broken
-  allowed-small e = by-test (leb v 2) refl e
+  -- and in a packet it collides with none
+  pub allowed-apart : c .level ≡ inPacket → p .collides c v ≡ false
+  allowed-apart l = by-test (p .collides c v) refl
     where
-      by-test : (b : Bool) → leb v 2 ≡ b → cond b (misdirected p c (c .level) v) (some Value) ≡ none → v ≤ 2
-      by-test true i h = leb-true v 2 i
-      by-test false i h = let z : _≡_ {A = ℕ} 0 1 = cc in absurd (omega arith)
+      by-test : (b : Bool) → p .collides c v ≡ b → b ≡ false
+      by-test true i = let e = order-repeated p c v .1 (allowed-small, l, i) in let z : _≡_ {A = ℕ} 0 1 = cc in absurd (omega arith)
+      by-test false i = refl
 
 -- ---- a step
 
@@ -79,6 +77,10 @@ module _ (p : Terms) (s : State) (v : ℕ) where
       by-way (noticed b e (misfitted g f)) i = cc
 
 -- ---- two terms, by the second of which more collides
+
+-- what collides by the first collides by the second
+abbrev pub Weaker : Terms → Terms → Type 0
+Weaker p q = (c : Context) (v : ℕ) → p .collides c v ≡ true → q .collides c v ≡ true
 
 module _ (p q : Terms) (c : Context) (v : ℕ) (implies : p .collides c v ≡ true → q .collides c v ≡ true) where
   -- one more collides, and the rest is as it was
@@ -115,7 +117,7 @@ module _ (p q : Terms) (c : Context) (v : ℕ) (implies : p .collides c v ≡ tr
   broken-kept (within a b) = inl refl
 
 -- and so for a step
-pub step-kept : (p q : Terms) → ((c : Context) (v : ℕ) → p .collides c v ≡ true → q .collides c v ≡ true) → (s : State) (v : ℕ)
+pub step-kept : (p q : Terms) → Weaker p q → (s : State) (v : ℕ)
     → (step q s v ≡ step p s v) ⊎ (step q s v ≡ breaks Repeated)
 unfolding step
 step-kept p q implies s v = by-broken (broken-kept p q (s .context) v (implies (s .context) v) (ruleOf (field s .sense)))

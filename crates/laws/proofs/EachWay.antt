@@ -85,7 +85,7 @@ module _ {es : List Entry} (telegram : Telegram paper es) (id : ℕ) (not-44 : i
   same-packet {d} {e} h k c = by-order (packets-ordered h k)
     where
       by-order : Order (h .before) (k .before) id d id e → (h .before ≡ k .before) × (d ≡ e)
-      by-order (same i j) = (i, j)
+      by-order (same i n j) = (i, j)
       by-order (ahead x y) = absurd (not-before d e k x (clash-symmetric e d ∙ c))
       by-order (behind x y) = absurd (not-before e d h x c)
 

@@ -2,7 +2,7 @@
 -- accepts too, or it has a pair and is refused at the Q_DIR that makes its first. For any two such rules, in reading and in writing.
 -- Assumes nothing.
 use mathlib.Core.Bool.{Bool, true, false, _&&_, _||_, or-true}
-use mathlib.Core.List.{List, [], _∷_, _++_, append-assoc}
+use mathlib.Core.List.{List, [], _∷_, _++_, append-assoc, append-nil}
 use mathlib.Core.Logic.{_⊎_, inl, inr, ⊎-elim}
 use mathlib.Core.Path.{_≡_, refl, sym, ap, _∙_, subst}
 use Prim.Native.Nat.{ℕ, _≤_}
@@ -10,23 +10,23 @@ use native.Mathlib.Omega.{arith}
 use lib.Dec.{eqb}
 use lib.ListN.{length}
 use Rattle.format.specs.Rules.{State, Terms, Earlier, begun, among, collidesBy, fieldPlace}
-use Rattle.format.specs.Telegrams.{Entry, entry, Taken, read, write, fromBits, fromValues, bitsIn, valuesIn, all, bits, values, bitCount, Telegram}
-use Rattle.format.specs.Telegrams.Result.{accepted, refused}
+use Rattle.format.specs.Telegrams.{Entry, entry, Taken, read, write, all, bits, values, bitCount, Telegram}
+use Rattle.format.specs.Telegrams.Result.{refused}
 use Rattle.format.specs.declared.Kind.the-variants.{Repeated}
 use Rattle.format.specs.declared.Refusal.{Refusal}
-use Rattle.laws.proofs.Sources.{Source, Sent, Listed, from-bits, from-values}
+use Rattle.laws.proofs.Sources.{Source, from-bits, from-values}
 use Rattle.laws.proofs.Round.{all-append}
 use Rattle.laws.proofs.Demand2.{below-bits, room}
 use Rattle.laws.proofs.Points.{Pointed}
 use Rattle.laws.proofs.Points.Points.{breaking}
 use Rattle.laws.proofs.Offending.{offends}
 use Rattle.laws.proofs.JustPointed.{read-refuses, write-refuses}
-use Rattle.laws.proofs.Pairs.{Pair, pair-grown}
+use Rattle.laws.proofs.Pairs.{Pair, Implies}
 use Rattle.laws.proofs.Recalled.{sends-stands}
-use Rattle.laws.proofs.Collided.{collides-is, breaks-repeated}
-use Rattle.laws.proofs.Apart.{new-pair-at, repeated-pair, new-first, telegram-apart}
-use Rattle.laws.proofs.Tens.{directing, AtFirst}
-use Rattle.laws.proofs.Stricter.{Weaker, Halted, run-weaker, accepted-or-halted}
+use Rattle.laws.proofs.Collided.{Weaker, collides-is, breaks-repeated}
+use Rattle.laws.proofs.Apart.{repeated-pair, telegram-apart}
+use Rattle.laws.proofs.Tens.{directing, AtFirst, first-made, first-grown}
+use Rattle.laws.proofs.Stricter.{Halted, run-weaker, accepted-or-halted}
 
 -- entries that have a pair, and the refusal as 10 at the first: reading and writing give it
 pub record Turned (collide : ℕ → ℕ → Bool) (es : List Entry) : Type 0 where
@@ -38,44 +38,46 @@ pub record Turned (collide : ℕ → ℕ → Bool) (es : List Entry) : Type 0 wh
 -- ---- where a run halts
 
 module _ (collide : ℕ → ℕ → Bool) where
-  module _ (source : State → List ℕ → Taken) (part : Entry → List ℕ) (Good : State → List ℕ → Type 0) (law : Source source part Good) where
-    -- the refusal points at the field where it halts
-    halted-pointed : {es : List Entry} (h : Halted (directing collide) es)
-        → Pointed (directing collide) source part (all part es) (record { kind = Repeated; place = bitCount (h .sent) })
-    halted-pointed h =
-        let e = entry (h .state) (h .value) in
-        let k = breaks-repeated (directing collide) (h .state) (h .value) (h .repeats) in
-        let o = offends (directing collide) (h .state) (h .value) Repeated (sends-stands (h .sends)) k in
-        record {
-          sent = h .sent;
-          state = h .state;
-          left = part e ++ all part (h .left);
-          sends = h .sends;
-          front = ap (all part) (h .parts ∙ append-assoc (h .sent) (e ∷ []) (h .left)) ∙ all-append part (h .sent) (e ∷ h .left);
-          points = breaking (law .gives (h .state) (h .value) (all part (h .left)) (h .fits)) (h .repeats) o;
-        }
+  -- the first pair is made there
+  pub halted-first : {es : List Entry} (h : Halted (directing collide) es)
+      → AtFirst collide es (record { kind = Repeated; place = bitCount (h .sent) })
+  halted-first h =
+      subst (λ (l : List Entry). AtFirst collide l (record { kind = Repeated; place = bitCount (h .sent) })) (sym (h .parts))
+      (first-grown (first-made collide (h .sends) (repeated-pair fieldPlace collide (h .sends) (h .repeats))) (h .left))
+
+  -- and the refusal points at it, whatever else is left of the source
+  pub halted-pointed : {source : State → List ℕ → Taken} {part : Entry → List ℕ} {Good : State → List ℕ → Type 0} → Source source part Good
+      → {whole : List ℕ} {es : List Entry} (h : Halted (directing collide) es) (xs : List ℕ) → whole ≡ all part es ++ xs
+      → Pointed (directing collide) source part whole (record { kind = Repeated; place = bitCount (h .sent) })
+  halted-pointed {part = part} law {es = es} h xs i =
+      let e = entry (h .state) (h .value) in
+      let k = breaks-repeated (directing collide) (h .state) (h .value) (h .repeats) in
+      let o = offends (directing collide) (h .state) (h .value) Repeated (sends-stands (h .sends)) k in
+      let f : all part es ≡ all part (h .sent) ++ all part (e ∷ h .left) =
+      ap (all part) (h .parts ∙ append-assoc (h .sent) (e ∷ []) (h .left)) ∙ all-append part (h .sent) (e ∷ h .left) in
+      record {
+        sent = h .sent;
+        state = h .state;
+        left = part e ++ (all part (h .left) ++ xs);
+        sends = h .sends;
+        front = i ∙ ap (λ (l : List ℕ). l ++ xs) f ∙ append-assoc (all part (h .sent)) _ xs
+            ∙ ap (λ (l : List ℕ). all part (h .sent) ++ l) (append-assoc (part e) (all part (h .left)) xs);
+        points = breaking (law .gives (h .state) (h .value) (all part (h .left) ++ xs) (h .fits)) (h .repeats) o;
+      }
 
   -- so what halts is refused there, in reading and in writing
   halted-turned : {es : List Entry} → Halted (directing collide) es → length (bits es) ≤ 830 → Turned collide es
   halted-turned {es} h n =
-      let w = repeated-pair fieldPlace collide (h .sends) (h .repeats) in
-      let r = read-refuses (collidesBy collide) (bits es) (below-bits es) n _ .1 (halted-pointed fromBits bitsIn Sent from-bits h) in
-      let s = write-refuses (collidesBy collide) (values es) _ .1 (halted-pointed fromValues valuesIn Listed from-values h) in
-      subst (Turned collide) (sym (h .parts))
-      (record {
+      record {
         refusal = record { kind = Repeated; place = bitCount (h .sent) };
-        there = record {
-          pair = pair-grown (w .pair) (h .left);
-          first = new-first fieldPlace collide (h .sends) w;
-          is = ap (λ (x : ℕ). record { kind = Repeated; place = x }) (sym (new-pair-at w));
-        };
-        read-now = ap (λ (l : List Entry). read (directing collide) (bits l)) (sym (h .parts)) ∙ r;
-        written-now = ap (λ (l : List Entry). write (directing collide) (values l)) (sym (h .parts)) ∙ s;
-      })
+        there = halted-first h;
+        read-now = read-refuses (collidesBy collide) (bits es) (below-bits es) n _ .1 (halted-pointed from-bits h [] (sym (append-nil (bits es))));
+        written-now = write-refuses (collidesBy collide) (values es) _ .1 (halted-pointed from-values h [] (sym (append-nil (values es))));
+      }
 
 -- ---- two rules of directions, of which the second is the stricter
 
-module _ (weak strong : ℕ → ℕ → Bool) (implies : (d e : ℕ) → weak d e ≡ true → strong d e ≡ true) where
+module _ (weak strong : ℕ → ℕ → Bool) (implies : Implies weak strong) where
   -- the terms before, and now
   abbrev old : Terms
   old = directing weak

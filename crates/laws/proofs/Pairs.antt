@@ -42,6 +42,10 @@ laterAt h = bitCount (h .later .before ++ (holding NID-PACKET (h .id) ∷ []))
 abbrev pub serves : ℕ → ℕ → Bool
 serves d way = eqb d 2 || eqb d way
 
+-- what collides by the one rule of directions collides by the other, which is the stricter
+abbrev pub Implies : (ℕ → ℕ → Bool) → (ℕ → ℕ → Bool) → Type 0
+Implies weak strong = (d e : ℕ) → weak d e ≡ true → strong d e ≡ true
+
 -- ---- more entries behind
 
 -- a packet among entries is among more of them, and the same stands before it
@@ -130,7 +134,7 @@ pair-before {collide} {es} {e} h never = by-last (packet-newest (h .later))
 
 -- two packets of one list, by what stands before each: they are one, or the first stands before the second, or the second before the first
 pub data Order (b c : List Entry) (i d j e : ℕ) : Type 0 where
-  same : b ≡ c → d ≡ e → Order b c i d j e
+  same : b ≡ c → i ≡ j → d ≡ e → Order b c i d j e
   ahead : (h : PacketIn c i d) → h .before ≡ b → Order b c i d j e
   behind : (h : PacketIn b j e) → h .before ≡ c → Order b c i d j e
 
@@ -140,7 +144,7 @@ after-one x h = record { before = x ∷ h .before; after = h .after; parts = ap 
 
 -- the same element in front of both
 order-on : {b c : List Entry} {i d j e : ℕ} (x y : Entry) → x ≡ y → Order b c i d j e → Order (x ∷ b) (y ∷ c) i d j e
-order-on x y q (same h k) = same (cc) k
+order-on x y q (same h n k) = same (cc) n k
 order-on x y q (ahead h k) = ahead (after-one y h) (cc)
 order-on x y q (behind h k) = behind (after-one x h) (cc)
 
@@ -152,8 +156,9 @@ direction-not v u e = absurd (apart Q-DIR NID-PACKET refl (ap (λ (x : Entry). x
 ordered : (b c m n : List Entry) (i d j e : ℕ)
     → b ++ holding NID-PACKET i ∷ holding Q-DIR d ∷ m ≡ c ++ holding NID-PACKET j ∷ holding Q-DIR e ∷ n → Order b c i d j e
 ordered [] [] m n i d j e h =
+    let n : holding NID-PACKET i ≡ holding NID-PACKET j = cc in
     let q : holding Q-DIR d ≡ holding Q-DIR e = cc in
-    same refl (ap (λ (x : Entry). x .value) q)
+    same refl (ap (λ (x : Entry). x .value) n) (ap (λ (x : Entry). x .value) q)
 ordered [] (y ∷ []) m n i d j e h = direction-not d j (cc)
 ordered [] (y ∷ z ∷ c) m n i d j e h = ahead (record { before = []; after = c; parts = cc }) refl
 ordered (x ∷ []) [] m n i d j e h = direction-not e i (cc)

@@ -1,6 +1,7 @@
 -- A rule of directions that is made stricter: what the new rule refuses, the old one refused with the same kind at the same place, or it is
--- refused as 10 (which is told in `Tens`). In reading and in writing. Assumes nothing.
-use mathlib.Core.Bool.{Bool, true}
+-- refused as 10 (which is told in `Tens`); and what was refused behind a pair is refused as 10 at the first. In reading and in writing. Assumes
+-- nothing.
+use mathlib.Core.Bool.{Bool}
 use mathlib.Core.List.{List}
 use mathlib.Core.Logic.{_⊎_, inl, inr, ⊎-elim}
 use mathlib.Core.Path.{_≡_, sym, _∙_}
@@ -8,21 +9,23 @@ use Prim.Native.Nat.{ℕ, _≤_}
 use native.Mathlib.Omega.{arith}
 use lib.ListN.{length}
 use Rattle.bits.specs.Bits.{Below}
-use Rattle.format.specs.Rules.{State, Terms, collidesBy}
-use Rattle.format.specs.Telegrams.{Entry, Taken, read, write}
+use Rattle.format.specs.Rules.{State, Terms, collidesBy, fieldPlace}
+use Rattle.format.specs.Telegrams.{Entry, Taken, fromBits, fromValues, bitsIn, valuesIn, read, write}
 use Rattle.format.specs.Telegrams.Result.{refused}
 use Rattle.format.specs.declared.Kind.the-variants.{Repeated}
 use Rattle.format.specs.declared.Refusal.{Refusal}
-use Rattle.laws.proofs.Points.{Points, Pointed}
-use Rattle.laws.proofs.Points.Sends.{nothing}
+use Rattle.laws.proofs.Sources.{from-bits, from-values}
+use Rattle.laws.proofs.Points.{Sends, Points, Pointed}
 use Rattle.laws.proofs.Points.Points.{lacking, breaking, sizing, trailing}
 use Rattle.laws.proofs.JustPointed.{read-refuses, write-refuses}
 use Rattle.laws.proofs.Collided.{step-kept}
-use Rattle.laws.proofs.Stricter.{step-weaker, sends-weaker}
-use Rattle.laws.proofs.Mended.{weaker}
-use Rattle.laws.proofs.Tens.{directing}
+use Rattle.laws.proofs.Stricter.{Halted, step-weaker, sends-weaker, sent-or-halted}
+use Rattle.laws.proofs.Pairs.{Pair, Implies}
+use Rattle.laws.proofs.Apart.{sends-apart}
+use Rattle.laws.proofs.Tens.{directing, AtFirst}
+use Rattle.laws.proofs.Mended.{weaker, halted-first, halted-pointed}
 
-module _ (weak strong : ℕ → ℕ → Bool) (implies : (d e : ℕ) → weak d e ≡ true → strong d e ≡ true) where
+module _ (weak strong : ℕ → ℕ → Bool) (implies : Implies weak strong) where
   -- the terms before, and now
   abbrev old : Terms
   old = directing weak
@@ -78,3 +81,23 @@ module _ (weak strong : ℕ → ℕ → Bool) (implies : (d e : ℕ) → weak d 
   write-still vs r e =
       ⊎-elim (λ h. inl (write-refuses (collidesBy weak) vs r .1 h)) inr
       (still (write-refuses (collidesBy strong) vs r .0 e))
+
+  -- ---- what was refused behind a pair
+
+  -- where the entries before a refusal have a pair, they halt at the first
+  halts : {es : List Entry} {s : State} → Sends old es s → Pair strong es → Halted new es
+  halts h k = ⊎-elim (λ w. absurd (sends-apart fieldPlace strong w k)) (λ w. w) (sent-or-halted old new (weaker weak strong implies) h)
+
+  -- so what was refused at a field behind a pair is refused now as 10, at the first
+  pub read-overtaken : (bs : List ℕ) → Below 2 bs → length bs ≤ 830 → {q : Refusal} (h : Pointed old fromBits bitsIn bs q) → Pair strong (h .sent)
+      → (r : Refusal) × ((read new bs ≡ refused r) × AtFirst strong (h .sent) r)
+  read-overtaken bs b n h k =
+      let w = halts (h .sends) k in
+      (_, (read-refuses (collidesBy strong) bs b n _ .1 (halted-pointed strong from-bits w (h .left) (h .front)), halted-first strong w))
+
+  -- and so in writing
+  pub write-overtaken : (vs : List ℕ) {q : Refusal} (h : Pointed old fromValues valuesIn vs q) → Pair strong (h .sent)
+      → (r : Refusal) × ((write new vs ≡ refused r) × AtFirst strong (h .sent) r)
+  write-overtaken vs h k =
+      let w = halts (h .sends) k in
+      (_, (write-refuses (collidesBy strong) vs _ .1 (halted-pointed strong from-values w (h .left) (h .front)), halted-first strong w))

@@ -1,9 +1,9 @@
 -- Two terms, by the second of which more collides. What the second accepts, the first accepts; and what the first accepts, the second
 -- accepts too, or refuses as 10. So a telegram is accepted just where it is without rule 10, and has no pair. Assumes nothing.
-use mathlib.Core.Bool.{Bool, true, false}
+use mathlib.Core.Bool.{Bool, false}
 use mathlib.Core.List.{List, [], _∷_, _++_, append-assoc}
 use mathlib.Core.Logic.{_↔_, _⊎_, inl, inr, ⊎-elim}
-use mathlib.Core.Path.{_≡_, sym, _∙_, subst}
+use mathlib.Core.Path.{_≡_, sym, ap, _∙_, subst}
 use Prim.Native.Nat.{ℕ}
 use native.Mathlib.Omega.{arith}
 use Rattle.format.specs.Packets.{Items}
@@ -16,12 +16,8 @@ use Rattle.format.specs.declared.Kind.the-variants.{Repeated}
 use Rattle.laws.proofs.Points.{Sends}
 use Rattle.laws.proofs.Points.Sends.{nothing, one-more}
 use Rattle.laws.proofs.Pairs.{Pair, pair-grown}
-use Rattle.laws.proofs.Collided.{step-kept}
+use Rattle.laws.proofs.Collided.{Weaker, step-kept}
 use Rattle.laws.proofs.Apart.{ruled, repeated-pair, telegram-apart}
-
--- what collides by the first collides by the second
-abbrev pub Weaker : Terms → Terms → Type 0
-Weaker p q = (c : Context) (v : ℕ) → p .collides c v ≡ true → q .collides c v ≡ true
 
 -- a run up to the first value that is refused as 10
 pub record Halted (q : Terms) (whole : List Entry) : Type 0 where
@@ -90,6 +86,33 @@ module _ (p q : Terms) (weaker : Weaker p q) where
       by-step (inr k) on = inr (halts-here h f rest k)
 
   -- and so is a telegram
+  -- and so for entries that were sent
+  pub sent-or-halted : {es : List Entry} {s : State} → Sends p es s → Sends q es s ⊎ Halted q es
+  sent-or-halted nothing = inl nothing
+  sent-or-halted (one-more {es = es} {s = s} v {t = t} {c = c} h f e) = by-sent (sent-or-halted h)
+    where
+      further : Halted q es → Halted q (es ++ (entry s v ∷ []))
+      further w =
+          record {
+            sent = w .sent;
+            state = w .state;
+            value = w .value;
+            left = w .left ++ (entry s v ∷ []);
+            sends = w .sends;
+            fits = w .fits;
+            repeats = w .repeats;
+            parts = ap (λ (l : List Entry). l ++ (entry s v ∷ [])) (w .parts) ∙ append-assoc (w .sent ++ (entry (w .state) (w .value) ∷ [])) (w .left) (entry s v ∷ []);
+          }
+
+      by-step : Sends q es s → (step q s v ≡ step p s v) ⊎ (step q s v ≡ breaks Repeated)
+          → Sends q (es ++ (entry s v ∷ [])) (moved s t c) ⊎ Halted q (es ++ (entry s v ∷ []))
+      by-step w (inl k) = inl (one-more v w f (k ∙ e))
+      by-step w (inr k) = inr (halts-here w f [] k)
+
+      by-sent : Sends q es s ⊎ Halted q es → Sends q (es ++ (entry s v ∷ [])) (moved s t c) ⊎ Halted q (es ++ (entry s v ∷ []))
+      by-sent (inl w) = by-step w (step-kept p q weaker s v)
+      by-sent (inr w) = inr (further w)
+
   pub accepted-or-halted : {es : List Entry} → Telegram p es → Telegram q es ⊎ Halted q es
   accepted-or-halted r = goes-on nothing r
 
@@ -105,7 +128,7 @@ module _ (place : Kind → State → ℕ → ℕ) (collide : ℕ → ℕ → Boo
   halted-pair h = subst (Pair collide) (sym (h .parts)) (pair-grown (repeated-pair place collide (h .sends) (h .repeats) .pair) (h .left))
 
   -- what a weaker rule accepts and has no pair is accepted
-  pub only-pairs : (p : Terms) → Weaker p (ruled place collide) → {es : List Entry} → Telegram p es → (Pair collide es → ⊥)
+  only-pairs : (p : Terms) → Weaker p (ruled place collide) → {es : List Entry} → Telegram p es → (Pair collide es → ⊥)
       → Telegram (ruled place collide) es
   only-pairs p weaker t apart =
       ⊎-elim (λ r. r) (λ h. absurd (apart (halted-pair h))) (accepted-or-halted p (ruled place collide) weaker t)

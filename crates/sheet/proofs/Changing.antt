@@ -5,22 +5,26 @@ use mathlib.Core.List.{List}
 use mathlib.Core.Logic.{_↔_, _⊎_, inl, inr, ⊎-elim}
 use mathlib.Core.Option.{Option, some, none}
 use mathlib.Core.Path.{_≡_, refl}
-use Prim.Native.Nat.{ℕ}
+use Prim.Native.Nat.{ℕ, _<_}
 use native.Mathlib.Omega.{arith}
 use lib.Dec.{leb}
-use Rattle.format.specs.Telegrams.{Entry, Result, values}
+use lib.ListN.{take}
+use Rattle.bits.specs.Bits.{bitsOf}
+use Rattle.format.specs.Refusals.{numberOf}
+use Rattle.format.specs.Rules.{collidesBy}
+use Rattle.format.specs.Telegrams.{Entry, Result, values, fromBits, fromValues, bitsIn, valuesIn}
 use Rattle.format.specs.Telegrams.Result.{accepted, refused}
 use Rattle.format.specs.declared.Kind.the-variants.{Room, Repeated}
 use Rattle.format.specs.declared.Refusal.{Refusal}
-use Rattle.laws.proofs.Pairs.{Pair}
-use Rattle.laws.proofs.Tens.{directing, AtFirst}
+use Rattle.laws.proofs.Pairs.{Pair, Implies}
+use Rattle.laws.proofs.Tens.{directing, AtFirst, Repeats, pointed-repeats}
 use Rattle.laws.proofs.Changed.{Changed, write-changed}
 use Rattle.states.proofs.Changing.{tested-changed, check-changed}
 use Rattle.states.specs.Labels.{numbers}
 use Rattle.sheet.specs.Reading.{Rows, sheetIn}
 use Rattle.sheet.specs.Reading.Rows.{rows, bad}
 use Rattle.sheet.specs.Sheets.{exported, Imported, otherName, named, judged, onSheet, imported, importInto}
-use Rattle.sheet.proofs.Pointing.{by-writer}
+use Rattle.sheet.proofs.Pointing.{by-writer, export-pointed, import-pointed}
 use Rattle.sheet.specs.Sheets.Imported.{taken, refusedBy, refusedAt}
 
 -- an import before, and now by the stricter rule
@@ -81,7 +85,7 @@ same-changed strong never =
       still-row = λ k e. e;
     }
 
-module _ (weak strong : ℕ → ℕ → Bool) (implies : (d e : ℕ) → weak d e ≡ true → strong d e ≡ true) where
+module _ (weak strong : ℕ → ℕ → Bool) (implies : Implies weak strong) where
   pub export-changed : (s : List ℕ) (n room : ℕ) → Changed strong (exported (directing weak) s n room) (exported (directing strong) s n room)
   unfolding exported
   export-changed s n room = tested-changed (leb 65536 room) Room (λ i. check-changed weak strong implies s n)
@@ -98,3 +102,24 @@ module _ (weak strong : ℕ → ℕ → Bool) (implies : (d e : ℕ) → weak d 
   pub import-changed : (text : List ℕ) (room : ℕ) → Changed-import strong (importInto (directing weak) text room) (importInto (directing strong) text room)
   unfolding importInto imported
   import-changed text room = by-room (leb 104 room) (record { kind = Room; place = 0 }) (rows-changed (sheetIn text))
+
+-- ---- what a 10 is
+
+-- of a sheet's value column
+pub record InSheet (collide : ℕ → ℕ → Bool) (text : List ℕ) (r : Refusal) : Type 0 where
+  pub read : List Entry
+  pub is : sheetIn text ≡ rows read
+  pub repeats : Repeats collide fromValues valuesIn (values read) r
+
+module _ (collide : ℕ → ℕ → Bool) (r : Refusal) (ten : r .kind ≡ Repeated) where
+  late : 3 < numberOf (r .kind)
+  late = rw ten (omega arith)
+
+  pub export-repeats : (s : List ℕ) (n room : ℕ) → exported (directing collide) s n room ≡ refused r
+      → Repeats collide fromBits bitsIn (take n (bitsOf s)) r
+  export-repeats s n room e = pointed-repeats collide (export-pointed (collidesBy collide) r late s n room e) ten
+
+  pub import-repeats : (text : List ℕ) (room : ℕ) → importInto (directing collide) text room ≡ refusedBy r → InSheet collide text r
+  import-repeats text room e =
+      let h = import-pointed (collidesBy collide) r late text room e in
+      record { read = h .read; is = h .is; repeats = pointed-repeats collide (h .pointed) ten }

@@ -9,7 +9,7 @@ use Rattle.format.specs.Fields.{fields, Q-DIR, NID-RADIO, END}
 use Rattle.format.specs.Packets.{_⧺_, times, header, etcs, ctcs, find}
 use Rattle.format.specs.Rules.{begun, next, misdirected, broken, noted, closes, settled, onward, step, radioFrom, spotOf, spotAt, placeFrom, fieldPlace, clash, among, collidesBy, paper}
 use Rattle.format.specs.Telegrams.{write, fromValues, drive, valuesIn}
-use Rattle.format.specs.declared.Kind.the-variants.{Header, Ended}
+use Rattle.format.specs.declared.Kind.the-variants.{Header, Ended, Repeated}
 use Rattle.states.specs.Labels.{numbersIn}
 use Rattle.sheet.specs.Rows.{textOf, crlf, heading, labelText, rowText}
 use Rattle.sheet.specs.Reading.{row, rowIn, rowsIn, sheetIn}
@@ -74,3 +74,18 @@ others : answer (sheetWith (textOf "Q_UPDOWN,1,1") (textOf "M_VERSION,7,16") (te
     ≡ reply.Row 11 ∷ reply.Refused (record { kind = Ended; place = 0 }) ∷ []
 unfolding answer
 others = refl
+
+-- two ETCS-132, for one way and for another, and the end mark
+abbrev dangers : List ℕ → List ℕ
+dangers way =
+    line (textOf "NID_PACKET,8,132") (line (textOf "Q_DIR,2,1") (line (textOf "L_PACKET,13,24") (line (textOf "Q_ASPECT,1,0")
+    (line (textOf "NID_PACKET,8,132") (line way (line (textOf "L_PACKET,13,24") (line (textOf "Q_ASPECT,1,0") (textOf "END,8,255"))))))))
+
+-- a packet for both ways after one for one way, and a wrong name: the pair wins; without it the name; one for each way
+pairs : answer (sheetWith (textOf "Q_LINK,1,1") (textOf "M_VERSION,7,16") (dangers (textOf "Q_DIR,2,2")))
+    ∷ answer (sheetWith (textOf "Q_LINK,1,1") (textOf "M_VERSION,7,16") (dangers (textOf "Q_DIR,2,0")))
+    ∷ answer (sheetWith (textOf "Q_UPDOWN,1,1") (textOf "M_VERSION,7,16") (dangers (textOf "Q_DIR,2,0")))
+    ∷ []
+    ≡ reply.Refused (record { kind = Repeated; place = 82 }) ∷ reply.Row 1 ∷ reply.Done 106 ∷ []
+unfolding answer
+pairs = refl

@@ -5,19 +5,21 @@ use mathlib.Core.Bool.{Bool, true, false, cond}
 use mathlib.Core.List.{List}
 use mathlib.Core.Logic.{_↔_, inl}
 use mathlib.Core.Path.{_≡_, refl, sym, ap, _∙_}
-use Prim.Native.Nat.{ℕ}
+use Prim.Native.Nat.{ℕ, _<_}
 use native.Mathlib.Omega.{arith}
 use lib.Dec.{eqb, leb}
 use lib.ListN.{take}
 use Rattle.bits.specs.Bits.{bitsOf}
 use Rattle.format.specs.Normal.{normal}
+use Rattle.format.specs.Refusals.{numberOf}
 use Rattle.format.specs.Rules.{Terms, clash, collidesBy, paper}
-use Rattle.format.specs.Telegrams.{Entry, Result, fromBits, fromValues, bitsIn, valuesIn, write}
+use Rattle.format.specs.Telegrams.{Entry, Result, Telegram, fromBits, fromValues, bitsIn, valuesIn, write}
 use Rattle.format.specs.Telegrams.Result.{accepted, refused}
 use Rattle.format.specs.declared.Kind.{Kind}
 use Rattle.format.specs.declared.Kind.the-variants.{Room, Size, Padding, Repeated}
 use Rattle.format.specs.declared.Refusal.{Refusal}
 use Rattle.laws.proofs.Demand2.{write-is}
+use Rattle.laws.proofs.Pairs.{Implies}
 use Rattle.laws.proofs.EachWay.{OneEachWay, one-each-way}
 use Rattle.laws.proofs.Tens.{directing, Repeats, pointed-repeats}
 use Rattle.laws.proofs.Changed.{Changed, not-both, read-changed, write-changed}
@@ -27,7 +29,7 @@ use Rattle.states.specs.Normaliser.{normalOf, normaliseInto}
 use Rattle.states.specs.Reader.{sized, clear, atOnce, checked, readInto}
 use Rattle.states.specs.Writer.{writeInto}
 use Rattle.states.proofs.Answers.{sent-below, sent-few, check-judges}
-use Rattle.states.proofs.Pointing.{normal-refused, check-pointed, writer-pointed}
+use Rattle.states.proofs.Pointing.{room-given, normal-refused, normal-given, check-pointed, reader-pointed, normaliser-pointed, writer-pointed, label-pointed}
 
 -- ---- a test before it, whose refusal does not change
 
@@ -46,9 +48,14 @@ pub tested-changed : {strong : ℕ → ℕ → Bool} (test : Bool) (k : Kind) {a
 tested-changed true k h = h refl
 tested-changed {strong} false k h = refused-changed strong (record { kind = k; place = 0 })
 
+-- what the writer accepts is a telegram
+writes-telegram : (p : Terms) (vs : List ℕ) (room : ℕ) (es : List Entry) → writeInto p vs room ≡ accepted es → Telegram p es
+unfolding writeInto
+writes-telegram p vs room es a = write-is p vs es (room-given (leb 104 room) (write p vs) es a) .0
+
 -- ---- the answers
 
-module _ (weak strong : ℕ → ℕ → Bool) (implies : (d e : ℕ) → weak d e ≡ true → strong d e ≡ true) where
+module _ (weak strong : ℕ → ℕ → Bool) (implies : Implies weak strong) where
   pub check-changed : (s : List ℕ) (n : ℕ) → Changed strong (checked (directing weak) s n) (checked (directing strong) s n)
   unfolding checked
   check-changed s n =
@@ -67,7 +74,7 @@ module _ (weak strong : ℕ → ℕ → Bool) (implies : (d e : ℕ) → weak d 
   unfolding labelInto
   label-changed vs room = tested-changed (leb 830 room) Room (λ i. write-changed weak strong implies vs)
 
--- the normaliser, lent enough, refuses what the check refuses and in the same way, and gives the normal form of what the check accepts
+-- the normaliser, lent 104 bytes, refuses what the check refuses and in the same way, and gives the normal form of what the check accepts
 module _ (p : Terms) (s : List ℕ) (n room : ℕ) (lent : leb 104 room ≡ true) where
   is-normal : normaliseInto p s n room ≡ normalOf (checked p s n)
   unfolding normaliseInto
@@ -77,38 +84,50 @@ module _ (p : Terms) (s : List ℕ) (n room : ℕ) (lent : leb 104 room ≡ true
   normaliser-refuses r = (λ e. normal-refused (checked p s n) r (sym is-normal ∙ e), λ e. is-normal ∙ ap normalOf e)
 
   pub normaliser-accepts : (fs : List Entry)
-      → (normaliseInto p s n room ≡ accepted fs) ↔ ((es : List Entry) × ((checked p s n ≡ accepted es) × (fs ≡ normal es)))
+      → (normaliseInto p s n room ≡ accepted fs) ↔ ((es : List Entry) × (checked p s n ≡ accepted es) × (fs ≡ normal es))
   normaliser-accepts fs = (
-    λ e. by-answer (checked p s n) (sym is-normal ∙ e),
-    λ h. is-normal ∙ ap normalOf (h .1 .0) ∙ ap accepted (sym (h .1 .1)),
+    λ e. normal-given (checked p s n) fs (sym is-normal ∙ e),
+    λ h. is-normal ∙ ap normalOf (h .1) ∙ ap accepted (sym (h .2)),
   )
-    where
-      by-answer : (a : Result) → normalOf a ≡ accepted fs → (es : List Entry) × ((a ≡ accepted es) × (fs ≡ normal es))
-      by-answer (accepted es) e = (es, (refl, cc))
-      by-answer (refused r) e = not-both e refl
 
 -- ---- "From now on 2 collides with 0, 1 and 2"
 
 pub check-both-ways : (s : List ℕ) (n : ℕ) → Changed clash (checked (directing eqb) s n) (checked paper s n)
 check-both-ways = check-changed eqb clash same-clash
 
-pub writer-both-ways : (vs : List ℕ) (room : ℕ) → Changed clash (writeInto (directing eqb) vs room) (writeInto paper vs room)
-writer-both-ways = writer-changed eqb clash same-clash
-
 -- what the check accepted before and refuses now is just what has a packet for both ways and one of its kind for one way
 pub check-turned : (s : List ℕ) (n : ℕ) (es : List Entry) → checked (directing eqb) s n ≡ accepted es
     → ((r : Refusal) × (checked paper s n ≡ refused r)) ↔ Mixed es
 check-turned s n es h = turned-mixed (check-both-ways s n) (check-judges (directing eqb) s n .accepts es .0 h .telegram) h
 
--- what a 10 of the check is
-pub check-repeats : (collide : ℕ → ℕ → Bool) (s : List ℕ) (n : ℕ) (r : Refusal) → checked (directing collide) s n ≡ refused r → r .kind ≡ Repeated
-    → Repeats collide fromBits bitsIn (take n (bitsOf s)) r
-check-repeats collide s n r e k = pointed-repeats collide (check-pointed (collidesBy collide) r (rw k (omega arith)) s n e) k
+-- and so for the writer
+pub writer-turned : (vs : List ℕ) (room : ℕ) (es : List Entry) → writeInto (directing eqb) vs room ≡ accepted es
+    → ((r : Refusal) × (writeInto paper vs room ≡ refused r)) ↔ Mixed es
+writer-turned vs room es h = turned-mixed (writer-changed eqb clash same-clash vs room) (writes-telegram (directing eqb) vs room es h) h
 
--- and of the writer
-pub writer-repeats : (collide : ℕ → ℕ → Bool) (vs : List ℕ) (room : ℕ) (r : Refusal) → writeInto (directing collide) vs room ≡ refused r
-    → r .kind ≡ Repeated → Repeats collide fromValues valuesIn vs r
-writer-repeats collide vs room r e k = pointed-repeats collide (writer-pointed (collidesBy collide) r (rw k (omega arith)) vs room e) k
+-- ---- what a 10 is
+
+module _ (collide : ℕ → ℕ → Bool) (r : Refusal) (ten : r .kind ≡ Repeated) where
+  late : 3 < numberOf (r .kind)
+  late = rw ten (omega arith)
+
+  module _ (s : List ℕ) (n : ℕ) where
+    pub check-repeats : checked (directing collide) s n ≡ refused r → Repeats collide fromBits bitsIn (take n (bitsOf s)) r
+    check-repeats e = pointed-repeats collide (check-pointed (collidesBy collide) r late s n e) ten
+
+    pub reader-repeats : (room : ℕ) → readInto (directing collide) s n room ≡ refused r → Repeats collide fromBits bitsIn (take n (bitsOf s)) r
+    reader-repeats room e = pointed-repeats collide (reader-pointed (collidesBy collide) r late s n room e) ten
+
+    pub normaliser-repeats : (room : ℕ) → normaliseInto (directing collide) s n room ≡ refused r
+        → Repeats collide fromBits bitsIn (take n (bitsOf s)) r
+    normaliser-repeats room e = pointed-repeats collide (normaliser-pointed (collidesBy collide) r late s n room e) ten
+
+  module _ (vs : List ℕ) (room : ℕ) where
+    pub writer-repeats : writeInto (directing collide) vs room ≡ refused r → Repeats collide fromValues valuesIn vs r
+    writer-repeats e = pointed-repeats collide (writer-pointed (collidesBy collide) r late vs room e) ten
+
+    pub label-repeats : labelInto (directing collide) vs room ≡ refused r → Repeats collide fromValues valuesIn vs r
+    label-repeats e = pointed-repeats collide (label-pointed (collidesBy collide) r late vs room e) ten
 
 -- ---- clause 5.1.5 of what is accepted
 
@@ -118,9 +137,4 @@ accepted-one-each-way s n {es} a = one-each-way (check-judges paper s n .accepts
 
 -- and so does what the writer accepts
 pub written-one-each-way : (vs : List ℕ) (room : ℕ) {es : List Entry} → writeInto paper vs room ≡ accepted es → OneEachWay es
-unfolding writeInto
-written-one-each-way vs room {es} a = one-each-way (write-is paper vs es (by-room (leb 104 room) a) .0)
-  where
-    by-room : (test : Bool) → cond test (write paper vs) (atOnce Room) ≡ accepted es → write paper vs ≡ accepted es
-    by-room true e = e
-    by-room false e = not-both e refl
+written-one-each-way vs room {es} a = one-each-way (writes-telegram paper vs room es a)

@@ -8,9 +8,10 @@ use native.Mathlib.Omega.{arith}
 use lib.Dec.{leb}
 use lib.ListN.{take}
 use Rattle.bits.specs.Bits.{bitsOf}
+use Rattle.format.specs.Normal.{normal}
 use Rattle.format.specs.Refusals.{numberOf}
 use Rattle.format.specs.Rules.{Context, clash, collidesBy, paper}
-use Rattle.format.specs.Telegrams.{Result, fromBits, fromValues, bitsIn, valuesIn, write}
+use Rattle.format.specs.Telegrams.{Entry, Result, fromBits, fromValues, bitsIn, valuesIn, write}
 use Rattle.format.specs.Telegrams.Result.{accepted, refused}
 use Rattle.format.specs.declared.Kind.the-variants.{Room}
 use Rattle.format.specs.declared.Refusal.{Refusal}
@@ -36,7 +37,16 @@ pub room-passed : (test : Bool) (a : Result) (r : Refusal) → 3 < numberOf (r .
 room-passed true a r l e = e
 room-passed false a r l e = absurd (not-room r (cc) l)
 
--- the normaliser refuses what the check refuses
+-- nor is it given to what is accepted
+pub room-given : (test : Bool) (a : Result) (es : List Entry) → cond test a (atOnce Room) ≡ accepted es → a ≡ accepted es
+room-given true a es e = e
+room-given false a es e = let z : _≡_ {A = ℕ} 0 1 = cc in absurd (omega arith)
+
+-- the normaliser gives the normal form of what the check accepts, and refuses what it refuses
+pub normal-given : (a : Result) (fs : List Entry) → normalOf a ≡ accepted fs → (es : List Entry) × (a ≡ accepted es) × (fs ≡ normal es)
+normal-given (accepted es) fs e = (es, refl, cc)
+normal-given (refused r) fs e = let z : _≡_ {A = ℕ} 0 1 = cc in absurd (omega arith)
+
 pub normal-refused : (a : Result) (r : Refusal) → normalOf a ≡ refused r → a ≡ refused r
 normal-refused (accepted es) r e = cc
 normal-refused (refused q) r e = e
