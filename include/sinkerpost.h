@@ -40,7 +40,7 @@ enum {
     SINKERPOST_VALUE = 7,      /* a field holds a value that is not allowed */
     SINKERPOST_LENGTH = 8,     /* L_PACKET is not the number of bits that its packet takes */
     SINKERPOST_DIRECTION = 9,  /* a CTCS packet's Q_DIR differs from that of its ETCS-44 */
-    SINKERPOST_REPEATED = 10,  /* a second packet of one NID_PACKET, other than 44, whose Q_DIR is an earlier one's, or either is 2 */
+    SINKERPOST_REPEATED = 10,  /* a second packet of one NID_PACKET, other than 44, with the Q_DIR of an earlier one, or one of the two is 2 */
     SINKERPOST_TRAILING = 11   /* bits follow the end mark */
 };
 

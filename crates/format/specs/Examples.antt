@@ -74,8 +74,8 @@ directions-before : map (λ d. toldBy (record { placeOf = fieldPlace; collides =
 unfolding writtenBy
 directions-before = refl
 
--- ETCS-132 three times: 0, 1 and then 2; with an ETCS-137 for both ways between 0 and 2; Q_DIR 3 for the second; ETCS-44 twice with Q_DIR 1,
--- and with 2 and 1; ETCS-132 and ETCS-137 with Q_DIR 1
+-- ETCS-132 with 0, 1 and then 2; with 0 and 2, and an ETCS-137 for both ways between; with 2 and then 3; ETCS-44 twice with Q_DIR 1, and with 2
+-- and 1; ETCS-132 and ETCS-137 with Q_DIR 1
 collisions : map told
     ((132 ∷ 0 ∷ 24 ∷ 0 ∷ 132 ∷ 1 ∷ 24 ∷ 0 ∷ 132 ∷ 2 ∷ []) ∷ (132 ∷ 0 ∷ 24 ∷ 0 ∷ 137 ∷ 2 ∷ 24 ∷ 1 ∷ 132 ∷ 2 ∷ []) ∷ (132 ∷ 2 ∷ 24 ∷ 0 ∷ 132 ∷ 3 ∷ [])
     ∷ (44 ∷ 1 ∷ 48 ∷ 5 ∷ 1 ∷ 25 ∷ 0 ∷ 44 ∷ 1 ∷ 48 ∷ 5 ∷ 1 ∷ 25 ∷ 0 ∷ 255 ∷ []) ∷ (44 ∷ 2 ∷ 48 ∷ 5 ∷ 2 ∷ 25 ∷ 0 ∷ 44 ∷ 1 ∷ 48 ∷ 5 ∷ 1 ∷ 25 ∷ 0 ∷ 255 ∷ [])

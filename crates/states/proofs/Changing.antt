@@ -92,13 +92,10 @@ module _ (p : Terms) (s : List ℕ) (n room : ℕ) (lent : leb 104 room ≡ true
 
 -- ---- "From now on 2 collides with 0, 1 and 2"
 
-pub check-both-ways : (s : List ℕ) (n : ℕ) → Changed clash (checked (directing eqb) s n) (checked paper s n)
-check-both-ways = check-changed eqb clash same-clash
-
 -- what the check accepted before and refuses now is just what has a packet for both ways and one of its kind for one way
 pub check-turned : (s : List ℕ) (n : ℕ) (es : List Entry) → checked (directing eqb) s n ≡ accepted es
     → ((r : Refusal) × (checked paper s n ≡ refused r)) ↔ Mixed es
-check-turned s n es h = turned-mixed (check-both-ways s n) (check-judges (directing eqb) s n .accepts es .0 h .telegram) h
+check-turned s n es h = turned-mixed (check-changed eqb clash same-clash s n) (check-judges (directing eqb) s n .accepts es .0 h .telegram) h
 
 -- and so for the writer
 pub writer-turned : (vs : List ℕ) (room : ℕ) (es : List Entry) → writeInto (directing eqb) vs room ≡ accepted es
