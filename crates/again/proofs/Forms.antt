@@ -32,7 +32,7 @@ use Rattle.again.specs.Normals.{againIn, Renormalised, same, alike, Says
 use Rattle.again.specs.declared.normals.Alike.{Alike}
 use Rattle.again.specs.declared.normals.Alike.the-variants.{Same, Other, First, Second}
 use Rattle.states.proofs.Accepting.{sent, bytes-long, sound}
-use Rattle.states.proofs.Pointing.{room-given, normal-given}
+use Rattle.states.proofs.Pointing.{room-accepted, normal-given}
 
 -- ---- lists compared
 
@@ -74,7 +74,7 @@ module _ (p : Terms) (s : List ℕ) (n : ℕ) (x x-after : List ℕ) where
 
   normal-of : (fs : List Entry) → form ≡ accepted fs → (es : List Entry) × (checked p s n ≡ accepted es) × (fs ≡ normal es)
   unfolding normaliseInto
-  normal-of fs h = normal-given (checked p s n) fs (room-given (leb 104 (length x)) (normalOf (checked p s n)) fs h)
+  normal-of fs h = normal-given (checked p s n) fs (room-accepted (leb 104 (length x)) (normalOf (checked p s n)) fs h)
 
   -- the telegram that s is, its normal form, and that x holds it
   pub record Formed (k : ℕ) : Type 0 where

@@ -22,7 +22,7 @@ use Rattle.states.specs.Writer.{writeInto, sizeOf, bytesOver, Write}
 use Rattle.states.proofs.Answers.{check-judges, read-judges, answer-accepted, answer-refused, Stored, accepted-stores}
 use Rattle.states.proofs.Accepting.{sent, same-bytes, bytes-long, checks}
 use Rattle.states.proofs.Checking.{AcceptedAs, was-accepted, was-refused}
-use Rattle.states.proofs.Pointing.{room-given}
+use Rattle.states.proofs.Pointing.{room-accepted}
 use Rattle.again.specs.Again.{againOf, againOver, Rewritten, Reread}
 
 -- ---- the second of the two, given a telegram
@@ -108,7 +108,7 @@ module _ (p : Terms) (vs out run out-after : List ℕ) where
 
   was-written : (es : List Entry) → afterWrite ≡ accepted es → Telegram p es × (vs ≡ values es)
   unfolding writeInto
-  was-written es h = write-is p vs es (room-given (leb 104 (length out)) (write p vs) es h)
+  was-written es h = write-is p vs es (room-accepted (leb 104 (length out)) (write p vs) es h)
 
   module _ {a : Answer} {n : ℕ} (h : Write p vs out a out-after) (e : a ≡ Accepted n) where
     accepts : AcceptedAs bitCount afterWrite n

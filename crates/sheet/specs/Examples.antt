@@ -75,7 +75,7 @@ others : answer (sheetWith (textOf "Q_UPDOWN,1,1") (textOf "M_VERSION,7,16") (te
 unfolding answer
 others = refl
 
--- two ETCS-132, for one way and for another, and the end mark
+-- two ETCS-132, the first for one way, and the end mark
 abbrev dangers : List ℕ → List ℕ
 dangers way =
     line (textOf "NID_PACKET,8,132") (line (textOf "Q_DIR,2,1") (line (textOf "L_PACKET,13,24") (line (textOf "Q_ASPECT,1,0")

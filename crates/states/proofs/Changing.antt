@@ -29,7 +29,7 @@ use Rattle.states.specs.Normaliser.{normalOf, normaliseInto}
 use Rattle.states.specs.Reader.{sized, clear, atOnce, checked, readInto}
 use Rattle.states.specs.Writer.{writeInto}
 use Rattle.states.proofs.Answers.{sent-below, sent-few, check-judges}
-use Rattle.states.proofs.Pointing.{room-given, normal-refused, normal-given, check-pointed, reader-pointed, normaliser-pointed, writer-pointed, label-pointed}
+use Rattle.states.proofs.Pointing.{room-accepted, normal-refused, normal-given, check-pointed, reader-pointed, normaliser-pointed, writer-pointed, label-pointed}
 
 -- ---- a test before it, whose refusal does not change
 
@@ -51,7 +51,7 @@ tested-changed {strong} false k h = refused-changed strong (record { kind = k; p
 -- what the writer accepts is a telegram
 writes-telegram : (p : Terms) (vs : List ℕ) (room : ℕ) (es : List Entry) → writeInto p vs room ≡ accepted es → Telegram p es
 unfolding writeInto
-writes-telegram p vs room es a = write-is p vs es (room-given (leb 104 room) (write p vs) es a) .0
+writes-telegram p vs room es a = write-is p vs es (room-accepted (leb 104 room) (write p vs) es a) .0
 
 -- ---- the answers
 

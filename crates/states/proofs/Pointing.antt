@@ -37,10 +37,10 @@ pub room-passed : (test : Bool) (a : Result) (r : Refusal) → 3 < numberOf (r .
 room-passed true a r l e = e
 room-passed false a r l e = absurd (not-room r (cc) l)
 
--- nor is it given to what is accepted
-pub room-given : (test : Bool) (a : Result) (es : List Entry) → cond test a (atOnce Room) ≡ accepted es → a ≡ accepted es
-room-given true a es e = e
-room-given false a es e = let z : _≡_ {A = ℕ} 0 1 = cc in absurd (omega arith)
+-- what is accepted behind that test is accepted without it
+pub room-accepted : (test : Bool) (a : Result) (es : List Entry) → cond test a (atOnce Room) ≡ accepted es → a ≡ accepted es
+room-accepted true a es e = e
+room-accepted false a es e = let z : _≡_ {A = ℕ} 0 1 = cc in absurd (omega arith)
 
 -- the normaliser gives the normal form of what the check accepts, and refuses what it refuses
 pub normal-given : (a : Result) (fs : List Entry) → normalOf a ≡ accepted fs → (es : List Entry) × (a ≡ accepted es) × (fs ≡ normal es)
