@@ -11,6 +11,9 @@ use std::fmt::Write as _;
 use std::io::{self, BufRead, BufWriter, Write};
 use std::process::ExitCode;
 
+/// A question has no more bits than this; any telegram so long is refused by 2.
+const MOST_BITS: usize = 1_000;
+
 fn main() -> ExitCode {
     let arguments: Vec<String> = std::env::args().skip(1).collect();
     let words: Vec<&str> = arguments.iter().map(String::as_str).collect();
@@ -54,6 +57,7 @@ fn ask(seed: u64, count: u64) -> io::Result<()> {
         // Where the bytes do not go with n, the bits there are make the question.
         let telegram = corpus.telegram();
         let n = usize::try_from(telegram.n).unwrap_or(usize::MAX);
+        let n = n.min(MOST_BITS);
         writeln!(sink, "{kind} {}", digits(&unpack(&telegram.bytes, n)))?;
     }
     sink.flush()
