@@ -34,6 +34,8 @@ pub mod Bounds
 pub mod Pairs
 pub mod Awaited
 pub mod Recalled
+pub mod Whole
+pub mod Stages
 pub mod Collided
 pub mod Apart
 pub mod Tens

@@ -45,7 +45,7 @@ pointing collides = record { placeOf = fieldPlace; collides = collides }
 
 -- it ends where the entries do, and they stand as before
 module _ (p : Terms) (es : List Entry) (s : State) (v : ℕ) (a : s .at ≡ bitCount es) where
-  past-bits : past s ≡ bitCount (es ++ (entry s v ∷ []))
+  pub past-bits : past s ≡ bitCount (es ++ (entry s v ∷ []))
   past-bits = let w = width-named (s .todo) v in let b = bitCount-append es (entry s v ∷ []) in omega arith
 
   pub stands-on : (t : Items) (c : Context) → Stands es s → step p s v ≡ go t c → Stands (es ++ (entry s v ∷ [])) (moved s t c)

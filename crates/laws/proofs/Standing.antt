@@ -41,7 +41,7 @@ without-append f [] e w n = (n, tt)
 without-append f (x ∷ es) e w n = (w .0, without-append f es e (w .1) n)
 
 -- an entry behind a list that ends in m
-appended : {es : List Entry} (b m : List Entry) (e : Entry) → es ≡ b ++ m → es ++ (e ∷ []) ≡ b ++ (m ++ (e ∷ []))
+pub appended : {es : List Entry} (b m : List Entry) (e : Entry) → es ≡ b ++ m → es ++ (e ∷ []) ≡ b ++ (m ++ (e ∷ []))
 appended b m e i = ap (λ (l : List Entry). l ++ (e ∷ [])) i ∙ append-assoc b m (e ∷ [])
 
 -- one field more of a packet
@@ -207,7 +207,7 @@ module _ (p : Terms) (c : Context) (at v : ℕ) (u : Items) where
       })
 
   -- from one packet to the next
-  mark-apart : find v etcs ≡ some u → eqb v 255 ≡ false
+  pub mark-apart : find v etcs ≡ some u → eqb v 255 ≡ false
   mark-apart e = ne-eqb v 255 (λ i. let z : _≡_ {A = ℕ} 0 1 = cc mark-unlisted in omega arith)
 
   between-next : (es : List Entry) → c .start ≡ bitCount es → next end v ≡ some u

@@ -105,7 +105,7 @@ module _ (p : Terms) where
 -- ---- the header
 
 -- fields in a row, of which none begins a packet
-abbrev Plain : Items → Type 0
+abbrev pub Plain : Items → Type 0
 Plain end = Unit
 Plain nest = ⊥
 Plain (send f r) = (begins (record { field = f; value = 0 }) ≡ false) × Plain r
@@ -113,7 +113,7 @@ Plain (sendIf c f r) = ⊥
 Plain (sendEither c a b) = ⊥
 Plain (sendTimes c g r) = ⊥
 
-abbrev widths : Items → ℕ
+abbrev pub widths : Items → ℕ
 widths end = 0
 widths nest = 0
 widths (send f r) = f .width + widths r
@@ -121,7 +121,7 @@ widths (sendIf c f r) = 0
 widths (sendEither c a b) = 0
 widths (sendTimes c g r) = 0
 
-sent-next : (f : Field) (r t : Items) (v : ℕ) → next (send f r) v ≡ some t → t ≡ r
+pub sent-next : (f : Field) (r t : Items) (v : ℕ) → next (send f r) v ≡ some t → t ≡ r
 unfolding next
 sent-next f r t v h = cc
 
@@ -150,7 +150,7 @@ module _ (p : Terms) where
   header-is (sendEither c a b) h r i = absurd h
   header-is (sendTimes c g t) h r i = absurd h
 
-header-plain : Plain header
+pub header-plain : Plain header
 unfolding header
 header-plain = (refl, (refl, (refl, (refl, (refl, (refl, (refl, (refl, (refl, (refl, tt))))))))))
 

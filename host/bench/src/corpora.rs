@@ -4,7 +4,7 @@ use plain::corpus::packets::packet;
 use plain::corpus::random::Random;
 use plain::corpus::sound::{end, full, header};
 use plain::corpus::Telegram;
-use plain::worked;
+use plain::worked::{self, Cell};
 
 const TELEGRAMS: usize = 600;
 const END_BITS: usize = 8;
@@ -50,7 +50,35 @@ pub fn all() -> Vec<Corpus> {
                 .map(|_| Telegram::of(&full(&mut random).bits()))
                 .collect(),
         },
+        counted("1 packet", &mut random, 1),
+        counted("10 packets", &mut random, 10),
+        counted("20 packets, 830 bits", &mut random, 20),
     ]
+}
+
+/// Telegrams of so many short packets.
+fn counted(name: &'static str, random: &mut Random, packets: usize) -> Corpus {
+    let telegrams = (0..TELEGRAMS)
+        .map(|_| Telegram::of(&worked::telegram(&short(random)[..packets]).bits()))
+        .collect();
+    Corpus { name, telegrams }
+}
+
+/// Twenty packets that may stand together and just have room, in any order: eleven of six kinds, and nine ETCS-44.
+fn short(random: &mut Random) -> Vec<Vec<Cell>> {
+    let mut packets = vec![worked::gradients(1)];
+    for direction in [0, 1] {
+        packets.push(worked::etcs(254, direction, 23, &[]));
+        packets.push(worked::danger(direction));
+        packets.push(worked::stop_in(direction));
+        packets.push(worked::etcs(46, direction, 31, &[(3, 0), (5, 0)]));
+        packets.push(worked::etcs(68, direction, 41, &[(2, 1), (1, 1), (15, 70)]));
+    }
+    packets.resize_with(20, || worked::absolute_stop(1));
+    for last in (1..packets.len()).rev() {
+        packets.swap(last, random.index(last + 1));
+    }
+    packets
 }
 
 /// A telegram with these packets, each with an even share of the room that is left for its lists.
