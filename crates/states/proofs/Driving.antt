@@ -5,10 +5,10 @@ use mathlib.Core.List.{List, [], _∷_, _++_}
 use Prim.Native.Nat.{ℕ, _+_, _*_, _≤_, _<_}
 use native.Mathlib.Omega.{arith}
 use lib.ListN.{length, length-append}
-use Rattle.format.specs.Rules.{Earlier, begun, step, due, past, moved, among, paper, spotOf, spotAt, placeFrom, fieldPlace}
+use Rattle.format.specs.Rules.{Earlier, begun, step, due, past, moved, paper, spotOf, spotAt, placeFrom, fieldPlace}
 use Rattle.format.specs.Rules.Next.{over, breaks}
 use Rattle.format.specs.Table.{fieldAt, words}
-use Rattle.format.specs.Telegrams.{Entry, entry, values, valuesIn, bitCount, Taken, Driven, Result, refusal, push, drive, whole}
+use Rattle.format.specs.Telegrams.{Entry, entry, all, values, valuesIn, bitCount, Taken, Driven, Result, refusal, push, drive, whole}
 use Rattle.format.specs.Telegrams.Taken.{got, lacks}
 use Rattle.format.specs.Telegrams.Driven.{ended, stopped}
 use Rattle.format.specs.Telegrams.Result.{accepted, refused}
@@ -17,15 +17,18 @@ use Rattle.format.specs.declared.Kind.the-variants.{Ended, Trailing}
 use Rattle.format.specs.declared.Spot.{Spot}
 use Rattle.format.specs.declared.Spot.the-variants.{Due, Behind, Outer, Inner}
 use Rattle.laws.proofs.Sources.{Source, width-named}
+use Rattle.laws.proofs.Points.{Sends}
+use Rattle.laws.proofs.Points.Sends.{nothing, one-more}
+use Rattle.laws.proofs.Pointed.{one-front, sends-at}
 use Rattle.laws.proofs.Round.{all-append}
 use Rattle.laws.proofs.Steps.{over-mark}
 use Rattle.laws.proofs.Tile.{bitCount-append}
 use Rattle.laws.proofs.Turns.{pushes, pushes-ended, pushes-stopped, pushes-one, one-mark, one-broken, one-lacking, one-field-bounds}
 use Rattle.states.specs.Machine.{todoOf, contextOf, view, nextOf, earlierAfter, Sound, Beginning}
-use Rattle.states.specs.Seen.{Same, Passed, Noticed}
 use Rattle.states.specs.declared.State.{State}
 use Rattle.states.specs.declared.Outcome.{Outcome}
 use Rattle.states.specs.declared.Outcome.the-variants.{Go, Over, Breaks}
+use Rattle.states.proofs.Directions.{Passed}
 use Rattle.states.proofs.Moves.{due-right}
 use Rattle.format.specs.Rules as rules
 
@@ -84,28 +87,23 @@ module _ (source : rules.State → List ℕ → Taken) (part : Entry → List �
     result = whole paper (drive paper source (length xs₀) begun xs₀)
 
     -- where a field begins: the definition goes on from here with what is left, after the entries so far
-    pub record Drives (rows seen : List ℕ) (met : ℕ) (st : State) (count : ℕ) (xs : List ℕ) : Type 0 where
+    pub record Drives (rows : List ℕ) (st : State) (count : ℕ) (xs : List ℕ) : Type 0 where
       pub table : rows ≡ words
       pub entries : List Entry
       pub earlier : List Earlier
       pub goes : drive paper source (length xs₀) begun xs₀ ≡ pushes entries (drive paper source (length xs) (view earlier st) xs)
       pub good : Good (view earlier st) xs
       pub sound : Sound st
-      pub sent : bitCount entries ≡ st .at
+      pub sends : Sends paper entries (view earlier st)
+      pub front : xs₀ ≡ all part entries ++ xs
       pub counts : count ≡ length (values entries)
-      pub noted : 2 * met ≤ st .at
-      pub long : length seen ≡ 416
-      pub same : Same seen met earlier
 
     from-start : (q : rules.State) (xs : List ℕ) → q ≡ begun → xs ≡ xs₀
         → drive paper source (length xs₀) begun xs₀ ≡ drive paper source (length xs) q xs
     from-start q xs e same = rw (e, same)
 
-    pub drives-first : {rows seen : List ℕ} {st : State} {xs : List ℕ} → rows ≡ words → length seen ≡ 416 → Beginning st → Good begun xs₀
-        → xs ≡ xs₀ → Drives rows seen 0 st 0 xs
-    unfolding begun among
-    drives-first {st = st} {xs = xs} t h b g same =
-        let z : st .at ≡ 0 = ap (λ (q : rules.State). q .at) (b .right) in
+    pub drives-first : {rows : List ℕ} {st : State} {xs : List ℕ} → rows ≡ words → Beginning st → Good begun xs₀ → xs ≡ xs₀ → Drives rows st 0 xs
+    drives-first {st = st} {xs = xs} t b g same =
         record {
           table = t;
           entries = [];
@@ -113,14 +111,12 @@ module _ (source : rules.State → List ℕ → Taken) (part : Entry → List �
           goes = from-start (view [] st) xs (b .right) same;
           good = subst (λ (q : rules.State). Good q xs) (sym (b .right)) (subst (λ (l : List ℕ). Good begun l) (sym same) g);
           sound = b .sound;
-          sent = sym z;
+          sends = subst (λ (q : rules.State). Sends paper [] q) (sym (b .right)) nothing;
+          front = sym same;
           counts = refl;
-          noted = omega arith;
-          long = h;
-          same = λ collide i d. refl;
         }
 
-    module _ {rows seen : List ℕ} {met : ℕ} {st : State} {count : ℕ} {xs : List ℕ} (i : Drives rows seen met st count xs) where
+    module _ {rows : List ℕ} {st : State} {count : ℕ} {xs : List ℕ} (i : Drives rows st count xs) where
       abbrev pub here : rules.State
       here = view (i .earlier) st
 
@@ -152,12 +148,12 @@ module _ (source : rules.State → List ℕ → Taken) (part : Entry → List �
           → result ≡ refused (record { kind = k; place = place })
       refused-lacking {k} e {place} pl = stops k 0 place pl (drive-lacking here xs k e)
 
-      module _ {v : ℕ} {ys : List ℕ} (e : source here xs ≡ got v ys) {out : Outcome} (o : Passed seen met st v out) where
+      module _ {v : ℕ} {ys : List ℕ} (e : source here xs ≡ got v ys) {out : Outcome} (o : Passed (i .earlier) st v out) where
         entry-width : entry here v .field .width ≡ fieldAt (st .todo .node) .width
         entry-width = width-named (todoOf (st .todo)) v ∙ rw due-is
 
         step-is : step paper here v ≡ nextOf (earlierAfter (i .earlier) st v) out
-        step-is = o .right (i .earlier) (i .same)
+        step-is = o .right
 
         pub refused-broken : {k : Kind} → out ≡ Breaks k → {place : ℕ} → ((l : List Earlier) → place ≡ fieldPlace k (view l st) v)
             → result ≡ refused (record { kind = k; place = place })
@@ -179,7 +175,7 @@ module _ (source : rules.State → List ℕ → Taken) (part : Entry → List �
         mark-counted = rw (values-more (i .entries) (entry here v), i .counts)
 
         pub mark-sized : bitCount (i .entries ++ (entry here v ∷ [])) ≡ st .at + fieldAt (st .todo .node) .width
-        mark-sized = bits-more (i .entries) (entry here v) ∙ rw (i .sent, entry-width)
+        mark-sized = bits-more (i .entries) (entry here v) ∙ rw (← (sends-at (i .sends)), entry-width)
 
         trailing : (zs : List ℕ) → 0 < length zs
             → whole paper (ended (i .entries ++ (entry here v ∷ [])) here zs) ≡ refused (refusal paper Trailing here 255)
@@ -217,17 +213,16 @@ module _ (source : rules.State → List ℕ → Taken) (part : Entry → List �
               (omega arith) (omega arith)
               ∙ ap (λ (q : rules.State). push (entry here v) (drive paper source (length ys) q ys)) arrives
 
-          pub drives-on : {met2 : ℕ} {seen2 : List ℕ} → Noticed seen met st v met2 seen2 → Drives rows seen2 met2 after (count + 1) ys
-          drives-on n = record {
+          pub drives-on : Drives rows after (count + 1) ys
+          drives-on = let had = law .taken here v xs ys (i .good) e in record {
             table = i .table;
             entries = i .entries ++ (entry here v ∷ []);
             earlier = earlierAfter (i .earlier) st v;
             goes = i .goes ∙ ap (pushes (i .entries)) goes-on ∙ sym (pushes-one (i .entries) (entry here v) _);
-            good = subst (λ (q : rules.State). Good q ys) arrives (law .taken here v xs ys (i .good) e .good (todoOf (after .todo)) _);
+            good = subst (λ (q : rules.State). Good q ys) arrives (had .good (todoOf (after .todo)) _);
             sound = kept .0;
-            sent = mark-sized ∙ sym (kept .1);
+            sends = subst (λ (q : rules.State). Sends paper (i .entries ++ (entry here v ∷ [])) q) arrives
+                (one-more v (i .sends) (had .fits) (step-is ∙ ap (nextOf (earlierAfter (i .earlier) st v)) g));
+            front = one-front part (i .entries) (entry here v) ys (i .front ∙ ap (λ (l : List ℕ). all part (i .entries) ++ l) (had .front));
             counts = rw (values-more (i .entries) (entry here v), i .counts);
-            noted = omega (arith, i .noted, n .few, kept .1);
-            long = n .long ∙ i .long;
-            same = n .same (i .earlier) (i .same);
           }

@@ -50,7 +50,7 @@ sound-header x k p l e =
 in-range : (k v : ℕ) → codeOf (fieldAt k .sense) ≡ 10 → lowOf (fieldAt k) ≤ v → v ≤ highOf (fieldAt k) → Slight k v
 in-range k v e l h = record { unkept = λ g. omega arith; allowed = λ g. (l, h) }
 
-module _ (s : List ℕ) (n : ℕ) (rows seen : List ℕ) (low : n ≤ 830) (wide : n ≤ 8 * length s) (table : rows ≡ words) (long : length seen ≡ 416)
+module _ (s : List ℕ) (n : ℕ) (rows : List ℕ) (low : n ≤ 830) (wide : n ≤ 8 * length s) (table : rows ≡ words)
     {r : State} (o : Fronted s n r) where
   abbrev a : ℕ
   a = o .bits
@@ -59,7 +59,7 @@ module _ (s : List ℕ) (n : ℕ) (rows seen : List ℕ) (low : n ≤ 830) (wide
   whole = taken s n 25 0 a (record { at = 25 }) (o .field)
 
   abbrev At : State → ℕ → Type 0
-  At st count = Scans s n rows seen 0 st (record { at = st .at }) count
+  At st count = Scans s n rows st (record { at = st .at }) count
 
   -- past a field of which nothing is kept, before another
   goes : {k x p count v : ℕ} (w : ℕ) → At (inHeader x k p) count → w ≡ fieldAt k .width → takeAt s n w x ≡ Field v (record { at = x + w })
@@ -73,7 +73,7 @@ module _ (s : List ℕ) (n : ℕ) (rows seen : List ℕ) (low : n ≤ 830) (wide
   after-updown : At (inHeader 1 2 0) 1
   unfolding rowAt
   after-updown =
-      goes 1 (scans-first low wide table long first-begins) refl (take-part s n 0 1 24 0 a 1 25 whole (omega arith) (omega (arith, o .fixed)))
+      goes 1 (scans-first low wide table first-begins) refl (take-part s n 0 1 24 0 a 1 25 whole (omega arith) (omega (arith, o .fixed)))
       (in-range 1 1 refl (omega arith) (omega arith)) refl refl
 
   after-version : At (inHeader 8 3 0) 2
@@ -188,5 +188,5 @@ module _ (s : List ℕ) (n : ℕ) (rows seen : List ℕ) (low : n ≤ 830) (wide
   after-link = scans-fine after-group refl refl takes-link judged-link (directs-not _ (λ e. omega arith)) enters-link
 
   -- the whole header
-  pub scans-fronted : Scans s n rows seen 0 r (record { at = r .at }) 10
+  pub scans-fronted : Scans s n rows r (record { at = r .at }) 10
   scans-fronted = rw (o .state) after-link

@@ -19,9 +19,9 @@ use Rattle.format.specs.Table.{act, fieldAt, codeOf, etcsRow, ctcsRow}
 use Rattle.format.specs.Kinds.{etcsStart, ctcsStart}
 use Rattle.format.proofs.Heads.{HeadRows, head-rows, between}
 use Rattle.format.proofs.Rows.{next-in, etcs-in, ctcs-in, none-act, nest-field, packet-width, direction-width, size-width}
-use Rattle.states.specs.Heads.{idIn, dirIn, longIn, opened, Opened, Headed, nested, Nested, Inward, Led}
+use Rattle.states.specs.Heads.{opened, Opened, Headed, nested, Nested, Inward, Led}
 use Rattle.states.specs.Machine.{reached, contextOf, Advanced, Noted, Sound, Judged, Entered, Directing}
-use Rattle.states.specs.Seen.{Held, Passed}
+use Rattle.states.specs.Lookback.{idIn, dirIn, longIn}
 use Rattle.states.specs.declared.Begun.{Begun}
 use Rattle.states.specs.declared.Outcome.the-variants.{Go}
 use Rattle.states.specs.declared.Level.the-variants.{Packet, User}
@@ -30,7 +30,8 @@ use Rattle.states.specs.declared.Todo.{Todo}
 use Rattle.states.specs.declared.Ahead.the-variants.{On}
 use Rattle.states.specs.declared.Verdict.the-variants.{Fine}
 use Rattle.states.proofs.Advancing.{advances-to, advances-inside, advances-next}
-use Rattle.states.proofs.Directions.{directs-here, directs-not, directs-elsewhere, not-user, collides-as-kept, passes, notices}
+use Rattle.states.proofs.Directions.{Passed, directs-not, directs-elsewhere, not-user, passes}
+use Rattle.states.proofs.LookedBack.{looks-back}
 use Rattle.states.proofs.Noting.{inPacket, inUser, withDir, packet-opens, user-opens, dir-packet, dir-user, long-packet, long-user}
 use Rattle.states.proofs.Scanning.{Scans, scans-on, scans-fine, fits}
 use Rattle.states.proofs.Senses.{rule-direction, judge-free, judge-packet, judge-user, judge-direction, packet-some, user-some, direction-once, direction-same}
@@ -47,7 +48,7 @@ head-inside k l e =
     omega arith
 
 -- past the L_PACKET of a head, of which n is noted
-module _ {s : List ℕ} {n : ℕ} {rows seen : List ℕ} {met : ℕ} {st : State} {c : Cursor} {count : ℕ} (i : Scans s n rows seen met st c count)
+module _ {s : List ℕ} {n : ℕ} {rows : List ℕ} {st : State} {c : Cursor} {count : ℕ} (i : Scans s n rows st c count)
     (plain : act (st .todo .node) ≡ 2) (size : codeOf (fieldAt (st .todo .node) .sense) ≡ 3) (more : act (st .todo .node + 1) ≡ 0 → ⊥)
     {v : ℕ} {next : Cursor} (h : takeAt s n 13 (c .at) ≡ Field v next) {m : State} (notes : Noted st 3 v m) where
   abbrev ahead : Todo
@@ -80,13 +81,13 @@ module _ {s : List ℕ} {n : ℕ} {rows seen : List ℕ} {met : ℕ} {st : State
       entered-on st v ahead m (next .at) (Go after) to-more (subst (λ (x : ℕ). Noted st x v m) (sym size) notes)
       (rw (← thirteen) (omega (arith, past-size .past, i .here))) (settled-goes after sound-after more)
 
-  pub scans-size : Scans s n rows seen met after next (count + 1)
+  pub scans-size : Scans s n rows after next (count + 1)
   scans-size =
       scans-fine i thirteen refl h (λ p l e. judge-free p (contextOf l st) (fieldAt (st .todo .node)) v (omega arith))
       (directs-not st (λ e. omega arith)) enters
 
-module _ {s : List ℕ} {n : ℕ} {rows seen : List ℕ} {met : ℕ} {st : State} {c : Cursor} {count : ℕ} (i : Scans s n rows seen met st c count)
-    (z : st .todo .node ≡ 0) {r : State} (o : Opened s n seen met st r) where
+module _ {s : List ℕ} {n : ℕ} {rows : List ℕ} {st : State} {c : Cursor} {count : ℕ} (i : Scans s n rows st c count)
+    (z : st .todo .node ≡ 0) {r : State} (o : Opened s n st r) where
   abbrev a : ℕ
   a = o .bits
 
@@ -142,10 +143,7 @@ module _ {s : List ℕ} {n : ℕ} {rows seen : List ℕ} {met : ℕ} {st : State
       (subst (λ (x : ℕ). Noted st x (idIn a) (inPacket st (idIn a))) (sym is-packet) (packet-opens st (idIn a))) (rw (← eight))
       (settled-goes s1 sound1 (λ e. omega (arith, rows-there .direction)))
 
-  few : met < length seen
-  few = omega (arith, i .drives .noted, i .drives .long, i .within, i .low)
-
-  scans1 : Scans s n rows seen met s1 (record { at = st .at + 8 }) (count + 1)
+  scans1 : Scans s n rows s1 (record { at = st .at + 8 }) (count + 1)
   scans1 = scans-fine i eight refl takes-id judged1 (directs-not st not-nine1) enters1
 
   -- Q_DIR
@@ -165,9 +163,6 @@ module _ {s : List ℕ} {n : ℕ} {rows seen : List ℕ} {met : ℕ} {st : State
   sound2 : Sound s2
   sound2 = record { tidy = to-size .tidy; first = omega (arith, i .drives .sound .first); second = omega arith; small = id-small }
 
-  directs : Directing s1 true
-  directs = directs-here s1 inside (o .known) refl
-
   judged2 : Judged s1 (dirIn a) false Fine
   judged2 p l h =
       direction-once p (contextOf l s1) (dirIn a) (o .allowed) refl (h (rule-direction (fieldAt k) (o .known)) refl)
@@ -179,52 +174,36 @@ module _ {s : List ℕ} {n : ℕ} {rows seen : List ℕ} {met : ℕ} {st : State
       (subst (λ (x : ℕ). Noted s1 x (dirIn a) (withDir s1 (dirIn a))) (sym (o .known)) (dir-packet s1 (dirIn a) refl)) (rw (← two) (omega arith))
       (settled-goes s2 sound2 (λ e. omega (arith, rows-there .next)))
 
-  passed2 : Passed seen met s1 (dirIn a) (Go s2)
+  passed2 : Passed (scans1 .drives .earlier) s1 (dirIn a) (Go s2)
   passed2 =
-      passes seen met s1 (dirIn a) true false (Go s2) directs
-      (λ e l same. collides-as-kept seen met s1 (dirIn a) false l same (o .alone))
+      passes (scans1 .drives .earlier) s1 (dirIn a) false (Go s2) (λ k l. looks-back scans1 (dirIn a) k l (o .alone))
       (stepped-goes s1 (dirIn a) false sound1 (Go s2) judged2 enters2)
 
-  module _ {met2 : ℕ} {seen2 : List ℕ} (held : Held seen met true r (r .dir) met2 seen2) where
-    kept : Held seen met true s1 (dirIn a) met2 seen2
-    kept =
-        let h = subst (λ (x : State). Held seen met true x (x .dir) met2 seen2) (o .state) held in
-        record { count = h .count; contents = h .contents }
+  scans2 : Scans s n rows s2 (record { at = st .at + 10 }) (count + 1 + 1)
+  scans2 = scans-on scans1 two refl takes-dir passed2 refl
 
-    scans2 : Scans s n rows seen2 met2 s2 (record { at = st .at + 10 }) (count + 1 + 1)
-    scans2 =
-        scans-on scans1 two refl takes-dir passed2 refl
-        (notices seen met s1 (dirIn a) true met2 seen2 directs few (fits scans1 two refl takes-dir) kept)
+  -- L_PACKET
 
-    -- L_PACKET
+  takes-long : takeAt s n 13 (st .at + 10) ≡ Field (longIn a) (record { at = st .at + 23 })
+  takes-long = let e : st .at + 10 + 13 ≡ st .at + 23 = omega arith in rw (← e) (take-part s n 10 13 0 (st .at) a (longIn a) _ whole (omega arith) (omega arith))
 
-    takes-long : takeAt s n 13 (st .at + 10) ≡ Field (longIn a) (record { at = st .at + 23 })
-    takes-long = let e : st .at + 10 + 13 ≡ st .at + 23 = omega arith in rw (← e) (take-part s n 10 13 0 (st .at) a (longIn a) _ whole (omega arith) (omega arith))
+  last-row : k + 1 + 1 ≡ k + 2
+  last-row = omega arith
 
-    last-row : k + 1 + 1 ≡ k + 2
-    last-row = omega arith
+  scans3 : Scans s n rows (opened st a) (record { at = st .at + 23 }) (count + 1 + 1 + 1)
+  scans3 = rw last-row at (scans-size scans2 (rows-there .next) (rows-there .size) (rw last-row (o .more)) takes-long (long-packet s2 (longIn a) refl))
 
-    scans3 : Scans s n rows seen2 met2 (opened st a) (record { at = st .at + 23 }) (count + 1 + 1 + 1)
-    scans3 = rw last-row at (scans-size scans2 (rows-there .next) (rows-there .size) (rw last-row (o .more)) takes-long (long-packet s2 (longIn a) refl))
+  -- the whole head
 
-    -- the whole head
-
-    scans-headed : Scans s n rows seen2 met2 r (record { at = r .at }) (count + 3)
-    scans-headed = let e : count + 3 ≡ count + 1 + 1 + 1 = omega arith in rw (o .state, e) scans3
+  scans-headed : Scans s n rows r (record { at = r .at }) (count + 3)
+  scans-headed = let e : count + 3 ≡ count + 1 + 1 + 1 = omega arith in rw (o .state, e) scans3
 
   less-headed : n - r .at < n - st .at
   less-headed = rw (o .state) (omega (arith, whole .within))
 
-  -- what the note of it needs
-  head-id : r .id < 256
-  head-id = rw (o .state) id-small
-
-  head-dir : r .dir < 4
-  head-dir = rw (o .state) (omega arith)
-
 -- ---- the head of a CTCS packet
 
-module _ {s : List ℕ} {n : ℕ} {rows seen : List ℕ} {met : ℕ} {st : State} {c : Cursor} {count : ℕ} (i : Scans s n rows seen met st c count)
+module _ {s : List ℕ} {n : ℕ} {rows : List ℕ} {st : State} {c : Cursor} {count : ℕ} (i : Scans s n rows st c count)
     (z : act (st .todo .node) ≡ 1) {r : State} (o : Nested s n st r) where
   abbrev b : ℕ
   b = o .bits
@@ -275,7 +254,7 @@ module _ {s : List ℕ} {n : ℕ} {rows seen : List ℕ} {met : ℕ} {st : State
       (subst (λ (x : ℕ). Noted st x (idIn b) (inUser st)) (sym is-user) (user-opens st (idIn b))) (rw (← nine))
       (settled-goes t1 firm1 (λ e. omega (arith, rows-here .direction)))
 
-  goes1 : Scans s n rows seen met t1 (record { at = st .at + 9 }) (count + 1)
+  goes1 : Scans s n rows t1 (record { at = st .at + 9 }) (count + 1)
   goes1 =
       scans-fine i nine refl takes-user (λ p l h. user-some (idIn b) user-there ∙ judge-user p (contextOf l st) (fieldAt (st .todo .node)) (idIn b) is-user)
       (directs-not st (λ e. omega (arith, is-user))) comes1
@@ -303,7 +282,7 @@ module _ {s : List ℕ} {n : ℕ} {rows seen : List ℕ} {met : ℕ} {st : State
       (subst (λ (x : ℕ). Noted t1 x (dirIn b) t1) (sym (o .known)) (dir-user t1 (dirIn b) refl)) (rw (← both) (omega arith))
       (settled-goes t2 firm2 (λ e. omega (arith, rows-here .next)))
 
-  goes2 : Scans s n rows seen met t2 (record { at = st .at + 11 }) (count + 1 + 1)
+  goes2 : Scans s n rows t2 (record { at = st .at + 11 }) (count + 1 + 1)
   goes2 =
       scans-fine goes1 both refl takes-way
       (λ p l h. direction-same p (contextOf l t1) (dirIn b) (o .allowed) refl (o .alike) ∙ judge-direction p (contextOf l t1) (fieldAt j) (dirIn b) (o .known))
@@ -317,12 +296,12 @@ module _ {s : List ℕ} {n : ℕ} {rows seen : List ℕ} {met : ℕ} {st : State
   behind-row : j + 1 + 1 ≡ j + 2
   behind-row = omega arith
 
-  goes3 : Scans s n rows seen met (nested st b) (record { at = st .at + 24 }) (count + 1 + 1 + 1)
+  goes3 : Scans s n rows (nested st b) (record { at = st .at + 24 }) (count + 1 + 1 + 1)
   goes3 = rw behind-row at (scans-size goes2 (rows-here .next) (rows-here .size) (rw behind-row (o .more)) takes-length (long-user t2 (longIn b) refl))
 
   -- the whole head
 
-  scans-nested : Scans s n rows seen met r (record { at = r .at }) (count + 3)
+  scans-nested : Scans s n rows r (record { at = r .at }) (count + 3)
   scans-nested = let e : count + 3 ≡ count + 1 + 1 + 1 = omega arith in rw (o .state, e) goes3
 
   less-nested : n - r .at < n - st .at
@@ -330,31 +309,19 @@ module _ {s : List ℕ} {n : ℕ} {rows seen : List ℕ} {met : ℕ} {st : State
 
 -- ---- either of the two
 
-module _ (s : List ℕ) (n : ℕ) (seen : List ℕ) (met : ℕ) (st : State) where
-  pub led-packet : (b : Begun) → st .todo .node ≡ 0 → Headed s n seen met st b → Led s n seen met st b
+module _ (s : List ℕ) (n : ℕ) (st : State) where
+  pub led-packet : (b : Begun) → st .todo .node ≡ 0 → Headed s n st b → Led s n st b
   led-packet (begun.To r) e o = inl (e, o)
   led-packet begun.Not e o = tt
 
-  pub led-inner : (b : Begun) → (st .todo .node ≡ 0 → ⊥) → act (st .todo .node) ≡ 1 → Inward s n st b → Led s n seen met st b
+  pub led-inner : (b : Begun) → (st .todo .node ≡ 0 → ⊥) → act (st .todo .node) ≡ 1 → Inward s n st b → Led s n st b
   led-inner (begun.To r) e z o = inr (e, z, o)
   led-inner begun.Not e z o = tt
 
-module _ {s : List ℕ} {n : ℕ} {rows seen : List ℕ} {met : ℕ} {st : State} {c : Cursor} {count : ℕ} (i : Scans s n rows seen met st c count)
-    {r : State} (o : Led s n seen met st (begun.To r)) where
-  -- only a packet's own head is kept
-  pub scans-led : {met2 : ℕ} {seen2 : List ℕ} → Held seen met (eqb (st .todo .node) 0) r (r .dir) met2 seen2
-      → Scans s n rows seen2 met2 r (record { at = r .at }) (count + 3)
-  scans-led {met2} {seen2} held =
-      ⊎-elim (λ w. scans-headed i (w .0) (w .1) (rw (eq-eqb (st .todo .node) 0 (w .0)) at held))
-      (λ w.
-      let h = rw (ne-eqb (st .todo .node) 0 (w .0)) at held in
-      rw (h .count, h .contents) (scans-nested i (w .1) (w .2))) o
+module _ {s : List ℕ} {n : ℕ} {rows : List ℕ} {st : State} {c : Cursor} {count : ℕ} (i : Scans s n rows st c count)
+    {r : State} (o : Led s n st (begun.To r)) where
+  pub scans-led : Scans s n rows r (record { at = r .at }) (count + 3)
+  scans-led = ⊎-elim (λ w. scans-headed i (w .0) (w .1)) (λ w. scans-nested i (w .1) (w .2)) o
 
   pub less-led : n - r .at < n - st .at
   less-led = ⊎-elim (λ w. less-headed i (w .0) (w .1)) (λ w. less-nested i (w .1) (w .2)) o
-
-  pub led-id : r .id < 256
-  led-id = ⊎-elim (λ w. head-id i (w .0) (w .1)) (λ w. rw (w .2 .state) (i .drives .sound .small)) o
-
-  pub led-dir : eqb (st .todo .node) 0 ≡ true → r .dir < 4
-  led-dir e = ⊎-elim (λ w. head-dir i (w .0) (w .1)) (λ w. absurd (w .0 (eqb-true (st .todo .node) 0 e))) o

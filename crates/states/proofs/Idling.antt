@@ -4,25 +4,23 @@ use mathlib.Core.Bool.{Bool, true, false, cond, _&&_, _||_}
 use mathlib.Core.List.{List}
 use mathlib.Core.Option.{none}
 use mathlib.Core.Path.{_≡_, refl, sym, ap, _∙_}
-use Prim.Native.Nat.{ℕ, _+_, _-_, _^_, _<_, _≤_}
+use Prim.Native.Nat.{ℕ, _+_, _-_, _<_, _≤_}
 use native.Mathlib.Decide.{decLe}
 use native.Mathlib.Nat.{lt-of-not-le}
 use native.Mathlib.Omega.{arith}
 use borrow.Author.Tests.{eqb-true, eqb-false, ltb-true, leb-true}
 use lib.Dec.{eqb, leb, ltb}
-use lib.ListN.{length}
-use Rattle.format.specs.Rules.{broken, unless, forbidden}
+use Rattle.format.specs.Rules.{Earlier, broken, unless, forbidden}
 use Rattle.format.specs.Table.{act, jump, fieldAt, codeOf, lowOf, highOf}
 use Rattle.laws.proofs.Told.{and-two}
 use Rattle.states.specs.Machine.{contextOf, levelOf, ruleAt, Tidy, Idle, later, Slight, slight, reached, Advanced, Noted, Sound, Judged, Settled, Entered, Directing}
-use Rattle.states.specs.Seen.{Passed, Noticed}
 use Rattle.states.specs.declared.State.{State}
 use Rattle.states.specs.declared.Outcome.{Outcome}
 use Rattle.states.specs.declared.Todo.{Todo}
 use Rattle.states.specs.declared.Ahead.the-variants.{On}
 use Rattle.states.specs.declared.Verdict.the-variants.{Fine}
 use Rattle.states.proofs.Advancing.{advances-next, again-field, advances-again}
-use Rattle.states.proofs.Directions.{directs-not, held-none, passes, notices, absurd-flag}
+use Rattle.states.proofs.Directions.{Passed, directs-not, passes}
 use Rattle.states.proofs.Noting.{nothing}
 use Rattle.states.proofs.Senses.{judge-free, judge-range, range-in}
 use Rattle.states.proofs.Stepping.{entered-on, stepped-goes}
@@ -47,13 +45,10 @@ module _ (t : Todo) (d : Tidy t) (i : Idle t) (v : ℕ) where
   pub idle-ahead : Follows (later t)
   idle-ahead = by-test (eqb (act k) 0) refl
 
--- a value that keeps its rule, where no packet's Q_DIR is due: what is noted of it, and where it leads
-module _ (s : State) (d : Sound s) (v : ℕ) (j : Judged s v false Fine) (away : Directing s false) (seen : List ℕ) (met : ℕ) where
-  pub fine-passed : {r : Outcome} → Entered s v r → Passed seen met s v r
-  fine-passed {r} e = passes seen met s v false false r away (λ h. absurd-flag false h refl) (stepped-goes s v false d r j e)
-
-  pub fine-noticed : met < length seen → v < 2 ^ fieldAt (s .todo .node) .width → Noticed seen met s v met seen
-  fine-noticed h l = notices seen met s v false met seen away h l (held-none seen met false s v refl)
+-- a value that keeps its rule, where no packet's Q_DIR is due
+pub fine-passed : (s : State) → Sound s → (v : ℕ) → Judged s v false Fine → Directing s false → {r : Outcome} → Entered s v r → (l : List Earlier)
+    → Passed l s v r
+fine-passed s d v j away {r} e l = passes l s v false r (λ k h. absurd (away .no refl k h)) (stepped-goes s v false d r j e)
 
 -- whatever a field holds that may hold anything
 pub slight-free : {k v : ℕ} → codeOf (fieldAt k .sense) < 3 → Slight k v

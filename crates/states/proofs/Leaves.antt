@@ -1,19 +1,18 @@
 -- Each promise of this crate's own functions is met by one answer alone. Assumes nothing.
 use mathlib.Core.Path.{_≡_, refl, sym, ap, _∙_}
-use mathlib.Core.Bool.{Bool, not, _&&_}
+use mathlib.Core.Bool.{Bool, _&&_}
 use mathlib.Core.List.{List, []}
 use Prim.Native.Nat.{ℕ}
 use lib.Dec.{eqb}
-use lib.ListN.{take}
 use Rattle.bits.proofs.Once.{Once, equation-once}
 use Rattle.format.specs.Normal.{viewOf}
-use Rattle.format.specs.Rules.{Earlier, Context, spotOf, clash, among}
+use Rattle.format.specs.Rules.{Earlier, Context, spotOf, clash}
 use Rattle.format.specs.Telegrams.{Entry}
 use Rattle.format.specs.declared.Kind.{Kind}
 use Rattle.states.specs.Machine.{Noted, senseOf, contextOf, levelOf, unread, slight}
 use Rattle.states.specs.Normaliser.{viewIs}
 use Rattle.states.specs.Reader.{sized}
-use Rattle.states.specs.Seen.{packetsIn}
+use Rattle.states.specs.Lookback.{collidesWith, packetsBefore}
 use Rattle.states.specs.declared.Level.{Level}
 use Rattle.states.specs.declared.Level.the-variants.{Header, Packet, User}
 use Rattle.states.specs.declared.State.{State}
@@ -24,8 +23,11 @@ use Rattle.format.specs.Rules as rules
 pub sized-once : (s : List ℕ) (n : ℕ) → Once (λ r. r ≡ sized s n)
 sized-once s n = equation-once (sized s n)
 
-pub collides-once : (seen : List ℕ) (n id dir : ℕ) → Once (λ r. r ≡ (not (eqb id 44) && among clash id dir (packetsIn (take n seen))))
-collides-once seen n id dir = equation-once (not (eqb id 44) && among clash id dir (packetsIn (take n seen)))
+pub collides-once : (s : List ℕ) (stop id dir : ℕ) → Once (λ r. r ≡ collidesWith id dir (packetsBefore s stop))
+collides-once s stop id dir = equation-once (collidesWith id dir (packetsBefore s stop))
+
+pub meets-once : (name way id dir : ℕ) → Once (λ r. r ≡ (eqb id name && clash dir way))
+meets-once name way id dir = equation-once (eqb id name && clash dir way)
 
 pub unread-once : (told : Bool) (a c : ℕ) → Once (λ r. r ≡ unread told a c)
 unread-once told a c = equation-once (unread told a c)

@@ -6,13 +6,14 @@ pub mod Places
 pub mod Senses
 pub mod Distances
 pub mod Noting
-pub mod Seen
+pub mod Hopping
 pub mod Stepping
 pub mod Directions
 pub mod Idling
 pub mod Drifting
 pub mod Driving
 pub mod Scanning
+pub mod LookedBack
 pub mod Fronting
 pub mod Heading
 pub mod Measuring

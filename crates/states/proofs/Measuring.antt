@@ -19,11 +19,11 @@ use Rattle.format.specs.declared.Kind.the-variants.{Ended, Trailing, Wide, Full
 use Rattle.format.specs.declared.Answer.the-variants.{Accepted}
 use Rattle.laws.proofs.Sources.{Listed, from-values}
 use Rattle.states.specs.Machine.{contextOf, view, Beginning}
-use Rattle.states.specs.Seen.{Passed, Noticed}
 use Rattle.states.specs.Writer.{sizeOf}
 use Rattle.states.specs.declared.State.{State}
 use Rattle.states.specs.declared.Outcome.{Outcome}
 use Rattle.states.specs.declared.Outcome.the-variants.{Go, Over, Breaks}
+use Rattle.states.proofs.Directions.{Passed}
 use Rattle.states.proofs.Driving.{placed, Drives, drives-first, due-is, refused-lacking, refused-broken, accepted-mark, refused-trailing, mark-sized, moves, drives-on}
 use Rattle.format.specs.Fields as fields
 use Rattle.format.specs.Rules as rules
@@ -49,21 +49,21 @@ lacks-ended q vs e = rw e
 
 -- ---- where a field begins
 
-abbrev pub ValueDrives : List ℕ → List ℕ → List ℕ → ℕ → State → ℕ → Type 0
-ValueDrives vs rows seen met st i = Drives fromValues valuesIn Listed from-values vs rows seen met st i (drop i vs)
+abbrev pub ValueDrives : List ℕ → List ℕ → State → ℕ → Type 0
+ValueDrives vs rows st i = Drives fromValues valuesIn Listed from-values vs rows st i (drop i vs)
 
-pub record Measures (vs rows seen : List ℕ) (met : ℕ) (st : State) (i : ℕ) : Type 0 where
-  pub drives : ValueDrives vs rows seen met st i
+pub record Measures (vs rows : List ℕ) (st : State) (i : ℕ) : Type 0 where
+  pub drives : ValueDrives vs rows st i
   pub within : i ≤ length vs
   pub low : st .at ≤ 830
 
-pub measures-first : {vs rows seen : List ℕ} {st : State} → rows ≡ words → length seen ≡ 416 → Beginning st → Measures vs rows seen 0 st 0
+pub measures-first : {vs rows : List ℕ} {st : State} → rows ≡ words → Beginning st → Measures vs rows st 0
 unfolding begun
-measures-first {vs} {rows} {seen} {st} t h b =
+measures-first {vs} {rows} {st} t b =
     let z : st .at ≡ 0 = ap (λ (q : rules.State). q .at) (b .right) in
-    record { drives = drives-first fromValues valuesIn Listed from-values vs t h b tt refl; within = omega arith; low = omega arith }
+    record { drives = drives-first fromValues valuesIn Listed from-values vs t b tt refl; within = omega arith; low = omega arith }
 
-module _ {vs rows seen : List ℕ} {met : ℕ} {st : State} {i : ℕ} (m : Measures vs rows seen met st i) where
+module _ {vs rows : List ℕ} {st : State} {i : ℕ} (m : Measures vs rows st i) where
   abbrev q : rules.State
   q = view (m .drives .earlier) st
 
@@ -109,7 +109,7 @@ module _ {vs rows seen : List ℕ} {met : ℕ} {st : State} {i : ℕ} (m : Measu
         end-is : st .at + w ≡ st .at + fieldAt (st .todo .node) .width
         end-is = rw ew
 
-        module _ {out : Outcome} (o : Passed seen met st v out) where
+        module _ {out : Outcome} (o : Passed (m .drives .earlier) st v out) where
           pub ends-broken : {k : Kind} → out ≡ Breaks k
               → write paper vs ≡ refused (record { kind = k; place = placeFrom k (st .at) (st .at + w) (contextOf [] st) })
           unfolding write
@@ -128,10 +128,9 @@ module _ {vs rows seen : List ℕ} {met : ℕ} {st : State} {i : ℕ} (m : Measu
           ends-trailing b z =
               refused-trailing fromValues valuesIn Listed from-values vs (m .drives) has o b (rw length-drop (omega arith)) (placed fromValues valuesIn Listed from-values vs (m .drives) Trailing v end-is)
 
-          pub measures-on : {after : State} → out ≡ Go after → {met2 : ℕ} {seen2 : List ℕ} → Noticed seen met st v met2 seen2
-              → Measures vs rows seen2 met2 after (i + 1)
-          measures-on g k = record {
-            drives = drives-on fromValues valuesIn Listed from-values vs (m .drives) has o g k;
+          pub measures-on : {after : State} → out ≡ Go after → Measures vs rows after (i + 1)
+          measures-on g = record {
+            drives = drives-on fromValues valuesIn Listed from-values vs (m .drives) has o g;
             within = omega arith;
             low = let a = moves fromValues valuesIn Listed from-values vs (m .drives) has o g in omega arith;
           }

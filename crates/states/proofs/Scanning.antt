@@ -35,9 +35,9 @@ use Rattle.states.specs.declared.Verdict.the-variants.{Fine}
 use Rattle.states.specs.declared.Outcome.{Outcome}
 use Rattle.states.specs.declared.Outcome.the-variants.{Go, Over, Breaks}
 use Rattle.states.proofs.Stepping.{width-in, settled-goes, settled-fresh}
-use Rattle.states.specs.Seen.{Passed, Noticed}
+use Rattle.states.proofs.Directions.{Passed}
 use Rattle.states.proofs.Driving.{placed, Drives, drives-first, due-is, here, refused-lacking, refused-broken, accepted-mark, refused-trailing, mark-counted, moves, drives-on}
-use Rattle.states.proofs.Idling.{idle-ahead, slight-free, fine-passed, fine-noticed, slight-judged, slight-not, slight-entered, sound-after}
+use Rattle.states.proofs.Idling.{idle-ahead, slight-free, fine-passed, slight-judged, slight-not, slight-entered, sound-after}
 use Rattle.format.specs.Fields as fields
 use Rattle.format.specs.Rules as rules
 
@@ -73,15 +73,15 @@ lacks-bits q f xs e h = rw (e, lt-leb (f .width) (length xs) h)
 abbrev pub telegramBits : List ℕ → ℕ → List ℕ
 telegramBits s n = take n (bitsOf s)
 
-abbrev pub BitDrives : List ℕ → ℕ → List ℕ → List ℕ → ℕ → State → ℕ → Type 0
-BitDrives s n rows seen met st count =
-    Drives fromBits bitsIn Sent from-bits (telegramBits s n) rows seen met st count (drop (st .at) (telegramBits s n))
+abbrev pub BitDrives : List ℕ → ℕ → List ℕ → State → ℕ → Type 0
+BitDrives s n rows st count =
+    Drives fromBits bitsIn Sent from-bits (telegramBits s n) rows st count (drop (st .at) (telegramBits s n))
 
 -- where a field begins: the driver over the bits from here on, and the cursor there
-pub record Scans (s : List ℕ) (n : ℕ) (rows seen : List ℕ) (met : ℕ) (st : State) (c : Cursor) (count : ℕ) : Type 0 where
+pub record Scans (s : List ℕ) (n : ℕ) (rows : List ℕ) (st : State) (c : Cursor) (count : ℕ) : Type 0 where
   pub low : n ≤ 830
   pub wide : n ≤ 8 * length s
-  pub drives : BitDrives s n rows seen met st count
+  pub drives : BitDrives s n rows st count
   pub here : c .at ≡ st .at
   pub within : st .at ≤ n
   pub few : count ≤ st .at
@@ -94,30 +94,32 @@ unfolding begun
 sent-bits s n low wide =
     record { bits = below-take 2 n (bitsOf s) (below-bitsOf s); room = let l = length-telegram s n wide in omega arith }
 
-pub scans-first : {s : List ℕ} {n : ℕ} {rows seen : List ℕ} {st : State} → n ≤ 830 → n ≤ 8 * length s → rows ≡ words → length seen ≡ 416
-    → Beginning st → Scans s n rows seen 0 st (record { at = 0 }) 0
+pub scans-first : {s : List ℕ} {n : ℕ} {rows : List ℕ} {st : State} → n ≤ 830 → n ≤ 8 * length s → rows ≡ words → Beginning st
+    → Scans s n rows st (record { at = 0 }) 0
 unfolding begun
-scans-first {s} {n} {rows} {seen} {st} low wide t h b =
+scans-first {s} {n} {rows} {st} low wide t b =
     let z : st .at ≡ 0 = ap (λ (q : rules.State). q .at) (b .right) in
     record {
       low = low;
       wide = wide;
-      drives = drives-first fromBits bitsIn Sent from-bits (telegramBits s n) t h b (sent-bits s n low wide) (rw z);
+      drives = drives-first fromBits bitsIn Sent from-bits (telegramBits s n) t b (sent-bits s n low wide) (rw z);
       here = sym z;
       within = omega arith;
       few = omega arith;
     }
 
-module _ {s : List ℕ} {n : ℕ} {rows seen : List ℕ} {met : ℕ} {st : State} {c : Cursor} {count : ℕ} (i : Scans s n rows seen met st c count)
+-- the field that is due
+pub field-is : {s : List ℕ} {n : ℕ} {rows : List ℕ} {st : State} {c : Cursor} {count : ℕ} (i : Scans s n rows st c count)
+    → rules.field (view (i .drives .earlier) st) ≡ fieldAt (st .todo .node)
+field-is {s} {n} i = due-is fromBits bitsIn Sent from-bits (telegramBits s n) (i .drives)
+
+module _ {s : List ℕ} {n : ℕ} {rows : List ℕ} {st : State} {c : Cursor} {count : ℕ} (i : Scans s n rows st c count)
     {w : ℕ} (ew : w ≡ fieldAt (st .todo .node) .width) {t : Taken} (e : t ≡ takeAt s n w (c .at)) where
   abbrev bs : List ℕ
   bs = telegramBits s n
 
   abbrev q : rules.State
   q = view (i .drives .earlier) st
-
-  field-is : rules.field q ≡ fieldAt (st .todo .node)
-  field-is = due-is fromBits bitsIn Sent from-bits bs (i .drives)
 
   length-rest : length (drop (st .at) bs) ≡ n - st .at
   length-rest = rw (length-drop (st .at) bs, length-telegram s n (i .wide))
@@ -130,7 +132,7 @@ module _ {s : List ℕ} {n : ℕ} {rows seen : List ℕ} {met : ℕ} {st : State
       by (yes k) = never-short t _ _ h (e ∙ take-whole s n w (c .at) (rw ew (width-in (fieldAt (st .todo .node)))) k (i .wide))
       by (no k) =
           let l = lt-of-not-le k in
-          lacks-bits q (fieldAt (st .todo .node)) (drop (st .at) bs) field-is (rw length-rest (omega (arith, i .here, i .within)))
+          lacks-bits q (fieldAt (st .todo .node)) (drop (st .at) bs) (field-is i) (rw length-rest (omega (arith, i .here, i .within)))
 
   pub ends-short : t ≡ Short → (end : ℕ)
       → read paper bs ≡ refused (record { kind = Ended; place = placeFrom Ended (st .at) end (contextOf [] st) })
@@ -153,14 +155,14 @@ module _ {s : List ℕ} {n : ℕ} {rows seen : List ℕ} {met : ℕ} {st : State
     has-field : fromBits q (drop (st .at) bs) ≡ got v (drop (st .at + w) bs)
     has-field =
         let g = is-field .within in
-        has-bits q (fieldAt (st .todo .node)) (drop (st .at) bs) field-is (rw length-rest (omega (arith, i .here, i .within)))
+        has-bits q (fieldAt (st .todo .node)) (drop (st .at) bs) (field-is i) (rw length-rest (omega (arith, i .here, i .within)))
         ∙ rw (← ew, value-is, drop-drop w (st .at) bs)
 
     -- where it ends
     next-is : next .at ≡ st .at + fieldAt (st .todo .node) .width
     next-is = is-field .past ∙ rw (i .here, ew)
 
-    module _ {out : Outcome} (o : Passed seen met st v out) where
+    module _ {out : Outcome} (o : Passed (i .drives .earlier) st v out) where
       pub ends-broken : {k : Kind} → out ≡ Breaks k
           → read paper bs ≡ refused (record { kind = k; place = placeFrom k (st .at) (next .at) (contextOf [] st) })
       unfolding read
@@ -189,37 +191,36 @@ module _ {s : List ℕ} {n : ℕ} {rows seen : List ℕ} {met : ℕ} {st : State
         pub less : n - after .at < n - st .at
         less = omega (arith, at-is, is-field .within, i .here, width-positive (fieldAt (st .todo .node)))
 
-        pub scans-on : {met2 : ℕ} {seen2 : List ℕ} → Noticed seen met st v met2 seen2 → Scans s n rows seen2 met2 after next (count + 1)
-        scans-on {met2} {seen2} k = record {
+        pub scans-on : Scans s n rows after next (count + 1)
+        scans-on = record {
           low = i .low;
           wide = i .wide;
-          drives = subst (λ (x : ℕ). Drives fromBits bitsIn Sent from-bits bs rows seen2 met2 after (count + 1) (drop x bs)) (sym at-is)
-              (drives-on fromBits bitsIn Sent from-bits bs (i .drives) has-field o g k);
+          drives = subst (λ (x : ℕ). Drives fromBits bitsIn Sent from-bits bs rows after (count + 1) (drop x bs)) (sym at-is)
+              (drives-on fromBits bitsIn Sent from-bits bs (i .drives) has-field o g);
           here = omega (arith, is-field .past, i .here, at-is);
           within = omega (arith, is-field .within, i .here, at-is);
           few = omega (arith, i .few, at-is, width-positive (fieldAt (st .todo .node)));
         }
 
 -- the cursor is made where the field begins
-pub scans-here : {s : List ℕ} {n : ℕ} {rows seen : List ℕ} {met : ℕ} {st : State} {c : Cursor} {count : ℕ} → Scans s n rows seen met st c count
-    → Scans s n rows seen met st (record { at = st .at }) count
+pub scans-here : {s : List ℕ} {n : ℕ} {rows : List ℕ} {st : State} {c : Cursor} {count : ℕ} → Scans s n rows st c count
+    → Scans s n rows st (record { at = st .at }) count
 scans-here i = record { low = i .low; wide = i .wide; drives = i .drives; here = refl; within = i .within; few = i .few }
 
 -- past a value that keeps its rule, where no packet's Q_DIR is due
-module _ {s : List ℕ} {n : ℕ} {rows seen : List ℕ} {met : ℕ} {st : State} {c : Cursor} {count : ℕ} (i : Scans s n rows seen met st c count)
+module _ {s : List ℕ} {n : ℕ} {rows : List ℕ} {st : State} {c : Cursor} {count : ℕ} (i : Scans s n rows st c count)
     {w : ℕ} (ew : w ≡ fieldAt (st .todo .node) .width) {t : Taken} (e : t ≡ takeAt s n w (c .at)) {v : ℕ} {next : Cursor} (h : t ≡ Field v next) where
   pub scans-fine : Judged st v false Fine → Directing st false → {r : State} → Entered st v (Go r)
-      → Scans s n rows seen met r next (count + 1)
+      → Scans s n rows r next (count + 1)
   scans-fine j away a =
-      scans-on i ew e h (fine-passed st (i .drives .sound) v j away seen met a) refl
-      (fine-noticed st (i .drives .sound) v j away seen met (omega (arith, i .drives .noted, i .drives .long, i .within, i .low)) (fits i ew e h))
+      scans-on i ew e h (fine-passed st (i .drives .sound) v j away a (i .drives .earlier)) refl
 
   -- and of which nothing is kept
   module _ (q : Slight (st .todo .node) v) {u : Todo} (a : Advanced (st .todo) v (On u)) where
     ends-at : next .at ≡ st .at + fieldAt (st .todo .node) .width
     ends-at = let g = is-field i ew e h in omega (arith, g .past, i .here)
 
-    scans-past : {r : State} → Settled (reached st (next .at) u) (Go r) → Scans s n rows seen met r next (count + 1)
+    scans-past : {r : State} → Settled (reached st (next .at) u) (Go r) → Scans s n rows r next (count + 1)
     scans-past z =
         scans-fine (slight-judged st (i .drives .sound) v q a ends-at) (slight-not st (i .drives .sound) v q a ends-at)
         (slight-entered st (i .drives .sound) v q a ends-at z)
@@ -228,29 +229,29 @@ module _ {s : List ℕ} {n : ℕ} {rows seen : List ℕ} {met : ℕ} {st : State
     sound-there = sound-after st (i .drives .sound) v q a ends-at
 
     -- to a field
-    pub scans-slight : (act (u .node) ≡ 0 → ⊥) → Scans s n rows seen met (reached st (next .at) u) next (count + 1)
+    pub scans-slight : (act (u .node) ≡ 0 → ⊥) → Scans s n rows (reached st (next .at) u) next (count + 1)
     scans-slight f = scans-past (settled-goes (reached st (next .at) u) sound-there f)
 
     -- to the end of a packet that is as long as it says
     pub scans-closed : act (u .node) ≡ 0
         → ((l : List Earlier) → closes (next .at) (contextOf l (reached st (next .at) u)) (levelOf (st .level)) ≡ true)
-        → Scans s n rows seen met (freshAt (next .at) (st .pig)) next (count + 1)
+        → Scans s n rows (freshAt (next .at) (st .pig)) next (count + 1)
     scans-closed z k = scans-past (settled-fresh (reached st (next .at) u) sound-there z k)
 
     pub less-slight : n - next .at < n - st .at
     less-slight = let g = is-field i ew e h in omega (arith, ends-at, g .within, width-positive (fieldAt (st .todo .node)))
 
 -- past fields that no rule reads
-module _ {s : List ℕ} {n : ℕ} {rows seen : List ℕ} {met : ℕ} {st : State} {c : Cursor} {count : ℕ} (i : Scans s n rows seen met st c count) where
+module _ {s : List ℕ} {n : ℕ} {rows : List ℕ} {st : State} {c : Cursor} {count : ℕ} (i : Scans s n rows st c count) where
   pub scans-drifted : {u : Todo} {x m : ℕ} → Drifted n false (st .todo) (st .at) u x m
-      → Scans s n rows seen met (reached st x u) (record { at = x }) (count + m)
+      → Scans s n rows (reached st x u) (record { at = x }) (count + m)
   scans-drifted nothing = rw (add-zero count) (scans-here i)
   scans-drifted (field {u} {x} {m} d idle free h) =
       let j = scans-drifted d in
       let w = fieldAt (u .node) .width in
       let v = valueOf (fieldBits s w x) in
       let g = idle-ahead u (j .drives .sound .tidy) idle v in
-      subst (λ (k : ℕ). Scans s n rows seen met (reached st (x + w) (later u)) (record { at = x + w }) k) (count-more m)
+      subst (λ (k : ℕ). Scans s n rows (reached st (x + w) (later u)) (record { at = x + w }) k) (count-more m)
       (scans-slight j refl refl (take-whole s n w x (width-in (fieldAt (u .node))) h (i .wide)) (slight-free free) (g .0) (g .1))
     where
       count-more : (m : ℕ) → count + m + 1 ≡ count + (m + 1)

@@ -1,17 +1,14 @@
 -- The header taken at once, whose first 25 bits hold all of it that a rule reads; a packet's head, whose NID_PACKET, Q_DIR and L_PACKET are
 -- 23; and that of a CTCS packet, whose NID_XUSER, Q_DIR and L_PACKET are 24. Definitions alone.
 use mathlib.Core.Path.{_≡_}
-use mathlib.Core.Bool.{false, not, _&&_}
+use mathlib.Core.Bool.{false}
 use mathlib.Core.List.{List}
 use mathlib.Core.Logic.{_⊎_}
 use Prim.Native.Nat.{ℕ, _+_, _/_, _%_, _≤_}
-use lib.Dec.{eqb}
-use lib.ListN.{take}
 use Rattle.bits.specs.Take.{takeAt}
 use Rattle.bits.specs.declared.Taken.the-variants.{Field}
-use Rattle.format.specs.Rules.{clash, among}
 use Rattle.format.specs.Table.{act, fieldAt, codeOf, etcsRow, ctcsRow}
-use Rattle.states.specs.Seen.{packetsIn}
+use Rattle.states.specs.Lookback.{collidesWith, packetsBefore, idIn, dirIn, longIn}
 use Rattle.states.specs.declared.Begun.{Begun}
 use Rattle.states.specs.declared.Begun.the-variants.{To, Not}
 use Rattle.states.specs.declared.Level.the-variants.{Packet, User}
@@ -61,16 +58,6 @@ Started bytes n Not = Unit
 
 -- ---- a packet's head
 
--- the three values in one number
-abbrev pub idIn : ℕ → ℕ
-idIn a = a / 32768
-
-abbrev pub dirIn : ℕ → ℕ
-dirIn a = a / 8192 % 4
-
-abbrev pub longIn : ℕ → ℕ
-longIn a = a % 8192
-
 -- the state behind the head
 abbrev pub opened : State → ℕ → State
 opened s a =
@@ -87,19 +74,19 @@ opened s a =
       pig = s .pig;
     }
 
--- the head keeps every rule, and a field follows it
-pub record Opened (bytes : List ℕ) (n : ℕ) (seen : List ℕ) (met : ℕ) (s : State) (r : State) : Type 0 where
+-- the head keeps every rule, its packet collides with none before it, and a field follows it
+pub record Opened (bytes : List ℕ) (n : ℕ) (s : State) (r : State) : Type 0 where
   pub bits : ℕ
   pub field : takeAt bytes n 23 (s .at) ≡ Field bits (record { at = s .at + 23 })
   pub known : codeOf (fieldAt (etcsRow (idIn bits)) .sense) ≡ 9
   pub more : act (etcsRow (idIn bits) + 2) ≡ 0 → ⊥
   pub allowed : dirIn bits ≤ 2
-  pub alone : false ≡ (not (eqb (idIn bits) 44) && among clash (idIn bits) (dirIn bits) (packetsIn (take met seen)))
+  pub alone : false ≡ collidesWith (idIn bits) (dirIn bits) (packetsBefore bytes (s .start))
   pub state : r ≡ opened s bits
 
-abbrev pub Headed : List ℕ → ℕ → List ℕ → ℕ → State → Begun → Type 0
-Headed bytes n seen met s (To r) = Opened bytes n seen met s r
-Headed bytes n seen met s Not = Unit
+abbrev pub Headed : List ℕ → ℕ → State → Begun → Type 0
+Headed bytes n s (To r) = Opened bytes n s r
+Headed bytes n s Not = Unit
 
 -- ---- the head of a CTCS packet, whose NID_XUSER, Q_DIR and L_PACKET are 24
 
@@ -134,7 +121,7 @@ Inward bytes n s Not = Unit
 
 -- ---- either of the two, by what is due: row 0 is between packets, and NID_XUSER is due where a packet holds another
 
-abbrev pub Led : List ℕ → ℕ → List ℕ → ℕ → State → Begun → Type 0
-Led bytes n seen met s (To r) =
-    ((s .todo .node ≡ 0) × Opened bytes n seen met s r) ⊎ ((s .todo .node ≡ 0 → ⊥) × (act (s .todo .node) ≡ 1) × Nested bytes n s r)
-Led bytes n seen met s Not = Unit
+abbrev pub Led : List ℕ → ℕ → State → Begun → Type 0
+Led bytes n s (To r) =
+    ((s .todo .node ≡ 0) × Opened bytes n s r) ⊎ ((s .todo .node ≡ 0 → ⊥) × (act (s .todo .node) ≡ 1) × Nested bytes n s r)
+Led bytes n s Not = Unit

@@ -1,7 +1,7 @@
 -- What check, read, write, label and normalise answer; and what the machine's state stands for, and each of its functions promises.
 pub mod Reader
 pub mod Machine
-pub mod Seen
+pub mod Lookback
 pub mod Heads
 pub mod Filling
 pub mod Writer

@@ -1,41 +1,60 @@
-// The packets that came before, each kept as 4 times its NID_PACKET plus its Q_DIR.
+// Whether a packet collides with an earlier one, found by looking back over bits: no list of the packets met is kept.
 ghost use mathlib.Core.Path.{_≡_};
-ghost use mathlib.Core.Bool.{not, _&&_};
-ghost use Prim.Native.Nat.{_/_, _%_};
+ghost use mathlib.Core.Bool.{_&&_};
+ghost use Prim.Native.Nat.{_-_};
 ghost use lib.Dec.{eqb};
-ghost use lib.ListN.{take};
-ghost use Rattle.format.specs.Rules.{clash, among};
-ghost use Rattle.states.specs.Seen.{packetsIn};
+ghost use Rattle.format.specs.Rules.{clash};
+ghost use Rattle.states.specs.Lookback.{collidesWith, packetsBefore};
+use bits::Cursor;
+use bits::Skipped;
+use bits::Taken;
 
-// Whether a packet with this NID_PACKET and Q_DIR collides with one of the first n of seen.
-pub fn collides(seen: &[u16], n: usize, id: u64, dir: u64) -> bool
-    ensures { λ r. ⌜ r ≡ (not (eqb id 44) && among clash id dir (packetsIn (take n (now (seen .entry))))) ⌝ }
+// The bits of a packet's NID_PACKET, Q_DIR and L_PACKET, and those of a header.
+const HEAD: usize = 23;
+
+const HEADER: usize = 50;
+
+// Whether a packet with this NID_PACKET and Q_DIR collides with one of those that stand behind the header and before the bit stop. It goes from
+// packet to packet by their L_PACKET.
+pub fn collides_in_bits(s: &[u8], stop: usize, id: u64, dir: u64) -> bool
+    ensures { λ r. ⌜ r ≡ collidesWith id dir (packetsBefore (now (s .entry)) stop) ⌝ }
 {
     if id == 44 {
         return false;
     }
-    let mut i = 0;
-    while i < n {
-        if seen.len() <= i {
+    let mut c = Cursor { at: HEADER };
+    loop {
+        let Taken::Field(a, body) = c.take(s, stop, HEAD) else {
             return false;
-        }
-        if meets(seen[i], id, dir) {
+        };
+        if meets(a / 32768, a / 8192 % 4, id, dir) {
             return true;
         }
-        i += 1;
+        let Skipped::To(next) = body.skip(stop, behind_head(a % 8192)) else {
+            return false;
+        };
+        c = next;
     }
-    false
 }
 
-// Whether what is kept has this NID_PACKET and a direction that collides with this Q_DIR.
-fn meets(kept: u16, id: u64, dir: u64) -> bool
-    ensures { λ r. ⌜ r ≡ (eqb id (kept / 4) && clash dir (kept % 4)) ⌝ }
+// The bits of a packet behind its head, none where its L_PACKET says less than that.
+fn behind_head(long: u64) -> usize
+    ensures { λ r. ⌜ r ≡ long - 23 ⌝ }
 {
-    let x = kept as u64;
-    if id != x / 4 {
+    if long < 23 {
+        return 0;
+    }
+    (long - 23) as usize
+}
+
+// Whether an earlier packet has this NID_PACKET and a direction that collides with this Q_DIR.
+pub fn meets(name: u64, way: u64, id: u64, dir: u64) -> bool
+    ensures { λ r. ⌜ r ≡ (eqb id name && clash dir way) ⌝ }
+{
+    if id != name {
         return false;
     }
-    directions_collide(dir, x % 4)
+    directions_collide(dir, way)
 }
 
 // Whether two directions collide: one of them is both ways, or they are the same.

@@ -9,7 +9,8 @@ mod views;
 
 use bits::Cursor;
 use distance::Scale;
-pub use earlier::collides;
+pub use earlier::collides_in_bits;
+pub use earlier::meets;
 use format::Kind;
 pub use packet::closes;
 pub use packet::noted;
