@@ -17,6 +17,7 @@ pub mod LookedBack
 pub mod Fronting
 pub mod Heading
 pub mod Measuring
+pub mod Walking
 pub mod Runs
 pub mod Taking
 pub mod Filling

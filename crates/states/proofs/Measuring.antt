@@ -67,7 +67,7 @@ module _ {vs rows : List ℕ} {st : State} {i : ℕ} (m : Measures vs rows st i)
   abbrev q : rules.State
   q = view (m .drives .earlier) st
 
-  field-is : rules.field q ≡ fieldAt (st .todo .node)
+  pub field-is : rules.field q ≡ fieldAt (st .todo .node)
   field-is = due-is fromValues valuesIn Listed from-values vs (m .drives)
 
   pub ends-none : length vs ≤ i → (end : ℕ)

@@ -18,9 +18,10 @@ use Rattle.format.specs.Rules.Next.{go}
 use Rattle.format.specs.Table.{act, fieldAt, jump, up, node}
 use Rattle.format.proofs.Rows.{jump-in, up-in, next-in, three-up, end-jump, next-up, jump-up, group-up, two-up, group-starts, up-repeats, if-jump, if-next, node-end, node-nest, node-send, node-if, node-either, node-times, end-field, none-act, none-up}
 use Rattle.states.specs.Labels.{numberAt}
+use Rattle.states.specs.Lookback.{begins}
 use Rattle.states.specs.Machine.{onward, todoAt, todoOf, after, Tidy, Followed, Moved, Turned}
 use Rattle.states.specs.declared.Todo.{Todo}
-use Rattle.states.proofs.Shapes.{append-end, row-due, row-named, row-goes, row-next, row-after, three-or-four}
+use Rattle.states.proofs.Shapes.{append-end, row-due, row-begins, row-named, row-goes, row-next, row-after, three-or-four}
 
 -- ---- what is to be sent, by its row
 
@@ -55,6 +56,14 @@ start-todo k u = ap (λ j. node k ⧺ onward j 0 (onward (up j) 0 end)) u ∙ ap
 -- between packets, nothing
 pub none-left : todoAt 0 0 0 ≡ end
 none-left = todo-end 0 0 0 none-act none-up
+
+-- a packet begins just where nothing is left to send
+pub todo-begins : (t : Todo) → Tidy t → act (t .node) ≡ 0 → begins (todoOf t) ≡ true
+todo-begins t d z = rw (todo-end (t .node) (t .left) (t .outer) z (d .settled z))
+
+pub todo-begins-not : (t : Todo) → (act (t .node) ≡ 0 → ⊥) → begins (todoOf t) ≡ false
+unfolding todoAt
+todo-begins-not t n = row-begins (t .node) _ (omega arith)
 
 -- the field in the row is the field that is due
 pub due-right : (t : Todo) → Tidy t → fieldAt (t .node) ≡ due (todoOf t)

@@ -14,6 +14,7 @@ use Rattle.format.specs.Rules.{Context, due, named, next, settled}
 use Rattle.format.specs.Rules.Next.{go}
 use Rattle.format.specs.Table.{act, fieldAt, jump, shape, node}
 use Rattle.format.proofs.Rows.{shaped, dueAt, field-due}
+use Rattle.states.specs.Lookback.{begins}
 use Rattle.states.specs.Machine.{after}
 
 -- the acts of the fields that steer and repeat nothing
@@ -54,6 +55,16 @@ module _ (f g : Field) (a b x : Items) where
   shape-due (suc (suc (suc zero))) l = refl
   shape-due (suc (suc (suc (suc zero)))) l = refl
   shape-due (suc (suc (suc (suc (suc n))))) l = refl
+
+  -- no end, so that no packet begins
+  shape-begins : (n : ℕ) → 0 < n → begins (shape n f g a b ⧺ x) ≡ false
+  unfolding shape _⧺_
+  shape-begins zero l = absurd (omega arith)
+  shape-begins (suc zero) l = refl
+  shape-begins (suc (suc zero)) l = refl
+  shape-begins (suc (suc (suc zero))) l = refl
+  shape-begins (suc (suc (suc (suc zero)))) l = refl
+  shape-begins (suc (suc (suc (suc (suc n))))) l = refl
 
   -- no end, so that its value is sent under the name of that field, whatever it is
   shape-named : (n : ℕ) → 0 < n → (v : ℕ) → named (shape n f g a b ⧺ x) v ≡ dueAt n f
@@ -109,6 +120,10 @@ module _ (k : ℕ) (x : Items) where
   -- no end, so that its value is sent under the name of that field
   pub row-named : 0 < act k → (v : ℕ) → named (node k ⧺ x) v ≡ fieldAt k
   row-named l v = ap (λ i. named (i ⧺ x) v) (shaped k) ∙ shape-named _ _ _ _ x (act k) l v ∙ field-due k
+
+  -- no end, so that no packet begins
+  pub row-begins : 0 < act k → begins (node k ⧺ x) ≡ false
+  row-begins l = by-shape (λ i. begins (i ⧺ x) ≡ false) k (λ f g a b. shape-begins f g a b x (act k) l)
 
   -- no end, so that no packet's length is tested
   pub row-goes : 0 < act k → (p : ℕ) (c : Context) → settled p (node k ⧺ x) c ≡ go (node k ⧺ x) c
