@@ -28,10 +28,12 @@ use Rattle.laws.proofs.Points.{holding}
 use Rattle.laws.proofs.Stages.{sends-directs}
 use Rattle.laws.proofs.Whole.{Whole, headed}
 use Rattle.laws.proofs.Whole.Whole.{front, then}
-use Rattle.states.specs.Lookback.{collidesWith, packetsBefore, idIn, dirIn, longIn, hopped}
-use Rattle.states.specs.Machine.{contextOf, levelOf, ruleAt}
+use Rattle.states.specs.Lookback.{collidesWith, packetsBefore, idIn, dirIn, longIn, hopped, Twice}
+use Rattle.states.specs.Machine.{contextOf, levelOf, ruleAt, Stepped}
 use Rattle.states.specs.declared.Level.the-variants.{Packet}
+use Rattle.states.specs.declared.Outcome.{Outcome}
 use Rattle.states.specs.declared.State.{State}
+use Rattle.states.proofs.Directions.{Passed, passes}
 use Rattle.states.proofs.Hopping.{among-none, among-more, hopped-head, hopped-short}
 use Rattle.states.proofs.Scanning.{Scans, telegramBits, inside-take, field-is}
 use Rattle.format.specs.Fields as fields
@@ -166,3 +168,8 @@ module _ {s : List ℕ} {n : ℕ} {rows : List ℕ} {st : State} {c : Cursor} {c
       ap (λ (x : Bool). not (eqb (st .id) 44) && x)
       (sym (ap (λ (x : ℕ). among clash (st .id) v (packetsBefore s x)) (q .start) ∙ whole-before s n (i .wide) clash (st .id) v (q .whole) _ fs low))
       ∙ sym e
+
+  -- so a step that is told whether they collide is the definition's
+  pub scans-passed : (v : ℕ) {twice : Bool} {r : Outcome} → Twice st v (packetsBefore s (st .start)) twice → Stepped st v twice r
+      → Passed (i .drives .earlier) st v r
+  scans-passed v {twice} {r} t o = passes (i .drives .earlier) st v twice r (λ k l. looks-back v k l (t k l)) o

@@ -23,13 +23,15 @@ use Rattle.laws.proofs.Steps.{going}
 use Rattle.laws.proofs.Whole.{Goes, Whole, headed}
 use Rattle.laws.proofs.Whole.Goes.{here, further}
 use Rattle.laws.proofs.Whole.Whole.{front, then}
-use Rattle.states.specs.Lookback.{collidesWith, begins, withPacket, walked, packetsAmong}
-use Rattle.states.specs.Machine.{contextOf, levelOf, ruleAt, todoOf, Tidy, Advanced}
+use Rattle.states.specs.Lookback.{collidesWith, begins, withPacket, walked, packetsAmong, Twice}
+use Rattle.states.specs.Machine.{contextOf, levelOf, ruleAt, todoOf, Tidy, Advanced, Stepped}
 use Rattle.states.specs.declared.Level.the-variants.{Packet}
+use Rattle.states.specs.declared.Outcome.{Outcome}
 use Rattle.states.specs.declared.State.{State}
 use Rattle.states.specs.declared.Todo.{Todo}
 use Rattle.states.specs.declared.Ahead.{Ahead}
 use Rattle.states.specs.declared.Ahead.the-variants.{On, Mark}
+use Rattle.states.proofs.Directions.{Passed, passes}
 use Rattle.states.proofs.Hopping.{among-none, among-more}
 use Rattle.states.proofs.LookedBack.{swapped}
 use Rattle.states.proofs.Measuring.{Measures, field-is}
@@ -132,6 +134,11 @@ module _ {vs rows : List ℕ} {st : State} {i : ℕ} (m : Measures vs rows st i)
       ap (λ (x : Bool). not (eqb (st .id) 44) && x)
       (sym (ap (λ (x : List ℕ). among clash (st .id) v (walked (drop 10 x) (some end))) fs ∙ whole-among clash (st .id) v (q .whole) (q .name)))
       ∙ sym e
+
+  -- so a step that is told whether they collide is the definition's
+  pub measures-passed : (v : ℕ) {twice : Bool} {r : Outcome} → Twice st v (packetsAmong vs i) twice → Stepped st v twice r
+      → Passed (m .drives .earlier) st v r
+  measures-passed v {twice} {r} t o = passes (m .drives .earlier) st v twice r (λ k l. walks-back v k l (t k l)) o
 
 -- ---- the loop that walks
 

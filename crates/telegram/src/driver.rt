@@ -1,11 +1,7 @@
-// What every driver of the machine does with a value: one field further, with the packets that came before in an array.
+// The short ways of the drivers: fields that need not be read are gone past, and values of which nothing is kept need no step of the machine.
 ghost use mathlib.Core.Path.{_≡_};
 ghost use Rattle.format.specs.Table.{words};
-ghost use Rattle.states.specs.Machine.{InTable, Tidy, Directing, Drifted, Eased};
-ghost use Rattle.states.specs.Seen.{Turning, Passed, Noticed};
-use crate::earlier::note;
-use crate::earlier::repeated;
-use crate::machine::step;
+ghost use Rattle.states.specs.Machine.{Tidy, Drifted, Eased};
 use crate::rows::act;
 use crate::rows::code;
 use crate::rows::high;
@@ -17,51 +13,12 @@ use crate::todo::turned;
 use bits::Cursor;
 use bits::Skipped;
 use states::Easy;
-use states::Level;
-use states::Outcome;
 use states::Reach;
-use states::State;
 use states::Todo;
-use states::codes::DIRECTION;
 use states::codes::END;
 use states::codes::SEND;
 use states::slight;
 use states::unread;
-
-// The field that is due holds v, after the packets of the first n of seen.
-pub(crate) fn turn(rows: &[u32; 213], seen: &[u16], n: usize, s: State, v: u64) -> Outcome
-    requires { ⌜ Turning (now rows) (now seen) n s v ⌝ }
-    ensures { λ r. ⌜ Passed (now (seen .entry)) n s v r ⌝ }
-{
-    let directs = directing(rows, s);
-    step(rows, s, v, repeated(seen, n, directs, s, v))
-}
-
-// Keeps the packet whose Q_DIR v is, if it is one, and answers how many are then kept.
-pub(crate) fn keep(rows: &[u32; 213], seen: &mut [u16], n: usize, s: State, v: u64) -> usize
-    requires { ⌜ Turning (now rows) (now seen) n s v ⌝ }
-    ensures { λ r. ⌜ Noticed (now (seen .entry)) n s v r (now (seen .exit)) ⌝ }
-{
-    note(seen, n, directing(rows, s), s, v)
-}
-
-// Whether the field that is due is the Q_DIR of a packet, by which packets collide.
-fn directing(rows: &[u32; 213], s: State) -> bool
-    requires { ⌜ InTable (now rows) (s .todo .node) ⌝ }
-    ensures { λ r. ⌜ Directing s r ⌝ }
-{
-    let t = s.todo;
-    let k = t.node;
-    if code(rows, k) != DIRECTION {
-        return false;
-    }
-    let l = s.level;
-    match l {
-        Level::Header => false,
-        Level::Packet => true,
-        Level::User => false,
-    }
-}
 
 // Goes past fields unread, through the cursor, up to one that has to be read, that is the last of its packet or of its list, or that would end
 // past bit n. What follows a field is told apart here in place, so that the processor can guess it.

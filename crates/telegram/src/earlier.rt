@@ -1,26 +1,114 @@
-// The packets that came before, each kept as 4 times its NID_PACKET plus its Q_DIR, and whether a packet collides with one of them.
-ghost use Rattle.states.specs.Seen.{Repeated, Keeping, Held};
+// Whether a packet collides with an earlier one. No list of the packets met is kept: the bits or values before are looked over again.
+ghost use mathlib.Core.Path.{_≡_};
+ghost use mathlib.Core.Bool.{_&&_};
+ghost use Prim.Native.Nat.{_≤_};
+ghost use lib.Dec.{eqb};
+ghost use lib.ListN.{length};
+ghost use Rattle.format.specs.Rules.{clash};
+ghost use Rattle.format.specs.Table.{words};
+ghost use Rattle.states.specs.Lookback.{collidesWith, packetsBefore, packetsAmong, begins, Twice};
+ghost use Rattle.states.specs.Machine.{InTable, Tidy, Directing, todoOf};
+use crate::rows::act;
+use crate::rows::code;
+use crate::todo::advance;
+use states::Ahead;
+use states::Level;
 use states::State;
-use states::collides;
+use states::Todo;
+use states::codes::DIRECTION;
+use states::codes::END;
+use states::collides_in_bits;
+use states::meets;
 
-// Whether the packet collides with an earlier one, where the field that is due is its Q_DIR.
-pub(crate) fn repeated(seen: &[u16], n: usize, directs: bool, s: State, v: u64) -> bool
-    ensures { λ r. ⌜ Repeated (now (seen .entry)) n directs s v r ⌝ }
+// The fields of a header.
+const HEADER: usize = 10;
+
+// Whether v is the Q_DIR of a packet that collides with one before it, in the bits of s.
+pub(crate) fn repeated_in_bits(rows: &[u32; 213], s: &[u8], st: State, v: u64) -> bool
+    requires { ⌜ InTable (now rows) (st .todo .node) ⌝ }
+    ensures { λ r. ⌜ Twice st v (packetsBefore (now (s .entry)) (st .start)) r ⌝ }
 {
-    if !directs {
+    if !directing(rows, st) {
         return false;
     }
-    collides(seen, n, s.id, v)
+    collides_in_bits(s, st.start, st.id, v)
 }
 
-// Keeps the packet, where the field that is due is its Q_DIR, and answers how many there then are.
-pub(crate) fn note(seen: &mut [u16], n: usize, directs: bool, s: State, v: u64) -> usize
-    requires { ⌜ Keeping (now seen) n directs s v ⌝ }
-    ensures { λ r. ⌜ Held (now (seen .entry)) n directs s v r (now (seen .exit)) ⌝ }
+// Whether v, which is the value number i, is the Q_DIR of a packet that collides with one before it.
+pub(crate) fn repeated_in_values(
+    rows: &[u32; 213],
+    values: &[u64],
+    i: usize,
+    st: State,
+    v: u64,
+) -> bool
+    requires { ⌜ InTable (now rows) (st .todo .node) × (i ≤ length (now values)) ⌝ }
+    ensures { λ r. ⌜ Twice st v (packetsAmong (now (values .entry)) i) r ⌝ }
 {
-    if !directs {
-        return n;
+    if !directing(rows, st) {
+        return false;
     }
-    seen[n] = (4 * s.id + v) as u16;
-    n + 1
+    collides_in_values(rows, values, i, st.id, v)
+}
+
+// Whether the field that is due is the Q_DIR of a packet, by which packets collide.
+fn directing(rows: &[u32; 213], s: State) -> bool
+    requires { ⌜ InTable (now rows) (s .todo .node) ⌝ }
+    ensures { λ r. ⌜ Directing s r ⌝ }
+{
+    let t = s.todo;
+    let k = t.node;
+    if code(rows, k) != DIRECTION {
+        return false;
+    }
+    let l = s.level;
+    match l {
+        Level::Header => false,
+        Level::Packet => true,
+        Level::User => false,
+    }
+}
+
+// Whether a packet with this NID_PACKET and Q_DIR collides with one of those among the first n values. These are gone over again from the header's end
+// on: an L_PACKET counts bits, and does not say how many values its packet has.
+fn collides_in_values(rows: &[u32; 213], values: &[u64], n: usize, id: u64, dir: u64) -> bool
+    requires { ⌜ (now rows ≡ words) × (n ≤ length (now values)) ⌝ }
+    ensures { λ r. ⌜ r ≡ collidesWith id dir (packetsAmong (now (values .entry)) n) ⌝ }
+{
+    if id == 44 {
+        return false;
+    }
+    if n == 0 {
+        return false;
+    }
+    let last = n - 1;
+    let mut t = Todo {
+        node: 0,
+        left: 0,
+        outer: 0,
+    };
+    let mut i = HEADER;
+    while i < last {
+        let v = values[i];
+        if packet_meets(rows, t, v, values[i + 1], id, dir) {
+            return true;
+        }
+        let Ahead::On(u) = advance(rows, t, v) else {
+            return false;
+        };
+        t = u;
+        i += 1;
+    }
+    false
+}
+
+// Whether a packet begins with the value v that collides with this one, where w is the value behind v.
+fn packet_meets(rows: &[u32; 213], t: Todo, v: u64, w: u64, id: u64, dir: u64) -> bool
+    requires { ⌜ (now rows ≡ words) × Tidy t ⌝ }
+    ensures { λ r. ⌜ r ≡ (begins (todoOf t) && (eqb id v && clash dir w)) ⌝ }
+{
+    if act(rows, t.node) != END {
+        return false;
+    }
+    meets(v, w, id, dir)
 }

@@ -17,7 +17,7 @@ use states::Todo;
 use states::codes::DIRECTION;
 use states::codes::END;
 use states::codes::NEST;
-use states::collides;
+use states::collides_in_bits;
 
 // The header, if it keeps every rule. Its first three fields are 1, 16 and 0, which is 288 in nine bits.
 pub(crate) fn header(s: &[u8], n: usize) -> Begun
@@ -59,21 +59,14 @@ pub(crate) fn header(s: &[u8], n: usize) -> Begun
     })
 }
 
-// The head that is due, if one is: of a packet, after the packets of the first met of seen, or of the CTCS packet inside one.
-pub(crate) fn leading(
-    rows: &[u32; 213],
-    s: &[u8],
-    n: usize,
-    seen: &[u16],
-    met: usize,
-    st: State,
-) -> Begun
+// The head that is due, if one is: of a packet, or of the CTCS packet inside one.
+pub(crate) fn leading(rows: &[u32; 213], s: &[u8], n: usize, st: State) -> Begun
     requires { ⌜ InTable (now rows) (st .todo .node) ⌝ }
-    ensures { λ r. ⌜ Led (now (s .entry)) n (now (seen .entry)) met st r ⌝ }
+    ensures { λ r. ⌜ Led (now (s .entry)) n st r ⌝ }
 {
     let t = st.todo;
     if t.node == 0 {
-        return head(rows, s, n, seen, met, st);
+        return head(rows, s, n, st);
     }
     if act(rows, t.node) == NEST {
         return inner(rows, s, n, st);
@@ -81,11 +74,11 @@ pub(crate) fn leading(
     Begun::Not
 }
 
-// The head of the packet that begins here, after the packets of the first met of seen, if it keeps every rule and a field follows it. Row 0,
-// which stands for no packet, has no Q_DIR.
-fn head(rows: &[u32; 213], s: &[u8], n: usize, seen: &[u16], met: usize, st: State) -> Begun
+// The head of the packet that begins here, if it keeps every rule, its packet collides with none before it, and a field follows it. Row 0, which
+// stands for no packet, has no Q_DIR.
+fn head(rows: &[u32; 213], s: &[u8], n: usize, st: State) -> Begun
     requires { ⌜ now rows ≡ words ⌝ }
-    ensures { λ r. ⌜ Headed (now (s .entry)) n (now (seen .entry)) met st r ⌝ }
+    ensures { λ r. ⌜ Headed (now (s .entry)) n st r ⌝ }
 {
     let c = Cursor { at: st.at };
     let Taken::Field(a, next) = c.take(s, n, 23) else {
@@ -104,7 +97,7 @@ fn head(rows: &[u32; 213], s: &[u8], n: usize, seen: &[u16], met: usize, st: Sta
     if dir == 3 {
         return Begun::Not;
     }
-    if collides(seen, met, id, dir) {
+    if collides_in_bits(s, st.start, id, dir) {
         return Begun::Not;
     }
     let todo = Todo {

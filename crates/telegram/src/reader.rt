@@ -14,12 +14,11 @@ use crate::answer::refuse;
 use crate::answer::refused;
 use crate::driver::drift;
 use crate::driver::ease;
-use crate::driver::keep;
-use crate::driver::turn;
-use crate::earlier::note;
+use crate::earlier::repeated_in_bits;
 use crate::head::header;
 use crate::head::leading;
 use crate::machine::fresh;
+use crate::machine::step;
 use crate::rows::width;
 use crate::state::begin;
 use crate::todo::advance;
@@ -84,31 +83,21 @@ fn scan(s: &[u8], n: usize) -> Answer
     ensures { λ r. ⌜ r ≡ answerOf (telegrams.read paper (take n (bitsOf (now (s .entry))))) ⌝ }
 {
     let rows = table::rows();
-    let mut seen = [0u16; 416];
     let mut st = begin();
     let mut count: usize = 0;
     if let Begun::To(after) = header(s, n) {
         st = after;
         count = 10;
     }
-    walk(&rows, s, n, &mut seen, st, count)
+    walk(&rows, s, n, st, count)
 }
 
 // Goes on from there, where so many fields were before, up to the first broken rule or the end mark, each field through the cursor: those that no
-// rule reads are gone past, and every other is taken. Every packet whose Q_DIR was taken is in seen: its Q_DIR has two bits of the 830, so that
-// there are not more than 415.
-fn walk(
-    rows: &[u32; 213],
-    s: &[u8],
-    n: usize,
-    seen: &mut [u16; 416],
-    from: State,
-    before: usize,
-) -> Answer
-    requires { ⌜ Scans (now s) n (now rows) (now seen) 0 from (record { at = from .at }) before ⌝ }
+// rule reads are gone past, and every other is taken.
+fn walk(rows: &[u32; 213], s: &[u8], n: usize, from: State, before: usize) -> Answer
+    requires { ⌜ Scans (now s) n (now rows) from (record { at = from .at }) before ⌝ }
     ensures { λ r. ⌜ r ≡ answerOf (telegrams.read paper (take n (bitsOf (now (s .entry))))) ⌝ }
 {
-    let mut met: usize = 0;
     let mut st = from;
     let mut count = before;
     loop {
@@ -118,8 +107,7 @@ fn walk(
         st.at = c.at;
         st.todo = t;
         count += g.fields;
-        if let Begun::To(after) = leading(rows, s, n, seen, met, st) {
-            met = note(seen, met, t.node == 0, after, after.dir);
+        if let Begun::To(after) = leading(rows, s, n, st) {
             st = after;
             count += 3;
             continue;
@@ -143,7 +131,7 @@ fn walk(
             }
             Easy::Not => {}
         }
-        match turn(rows, seen, met, st, v) {
+        match step(rows, st, v, repeated_in_bits(rows, s, st, v)) {
             Outcome::Breaks(kind) => {
                 return refused(kind, st, next.at);
             }
@@ -154,7 +142,6 @@ fn walk(
                 return refused(Kind::Trailing, st, next.at);
             }
             Outcome::Go(after) => {
-                met = keep(rows, seen, met, st, v);
                 st = after;
                 count += 1;
             }

@@ -7,8 +7,8 @@ ghost use Rattle.format.specs.Telegrams as telegrams;
 ghost use Rattle.states.specs.Writer.{sizeOf, Write, Storing, Stored};
 use crate::answer::refuse;
 use crate::answer::refused;
-use crate::driver::keep;
-use crate::driver::turn;
+use crate::earlier::repeated_in_values;
+use crate::machine::step;
 use crate::rows::width;
 use crate::state::begin;
 use crate::todo::advance;
@@ -34,14 +34,11 @@ pub fn write(values: &[u64], out: &mut [u8]) -> Answer
     a
 }
 
-// Goes over the values, each for the field that is due, up to the first broken rule or the end mark. Every packet whose Q_DIR was sent
-// is in seen, as in the check.
+// Goes over the values, each for the field that is due, up to the first broken rule or the end mark.
 pub(crate) fn measure(values: &[u64]) -> Answer
     ensures { λ r. ⌜ r ≡ sizeOf (telegrams.write paper (now (values .entry))) ⌝ }
 {
     let rows = table::rows();
-    let mut seen = [0u16; 416];
-    let mut met: usize = 0;
     let mut st = begin();
     let mut i: usize = 0;
     loop {
@@ -59,7 +56,7 @@ pub(crate) fn measure(values: &[u64]) -> Answer
         if 830 < end {
             return refused(Kind::Full, st, end);
         }
-        match turn(&rows, &seen, met, st, v) {
+        match step(&rows, st, v, repeated_in_values(&rows, values, i, st, v)) {
             Outcome::Breaks(kind) => {
                 return refused(kind, st, end);
             }
@@ -70,7 +67,6 @@ pub(crate) fn measure(values: &[u64]) -> Answer
                 return refused(Kind::Trailing, st, end);
             }
             Outcome::Go(after) => {
-                met = keep(&rows, &mut seen, met, st, v);
                 st = after;
                 i += 1;
             }

@@ -31,7 +31,7 @@ in-table : (c : tie.After-etcs) → c .etcs .result .row < 213
 in-table c = subst (λ (k : ℕ). k < 213) (etcs-row _ (c .etcs .result) (c .etcs .ensures)) (etcs-in _)
 
 code-requires : tie.Need-code-requires
-code-requires c κs = record { table = c .before .before .before .before .before .before .before .pre; inside = in-table c }
+code-requires c κs = record { table = c .before .before .before .before .before .before .pre; inside = in-table c }
 
 returns-2 : tie.Need-returns-2
 returns-2 c = search needs
@@ -44,7 +44,7 @@ add-act : tie.Need-add-act
 add-act c = omega (arith, directs c)
 
 act-requires : tie.Need-act-requires
-act-requires c κs = record { table = c .before .before .before .before .before .before .before .before .before .pre; inside = directs c }
+act-requires c κs = record { table = c .before .before .before .before .before .before .before .before .pre; inside = directs c }
 
 returns-3 : tie.Need-returns-3
 returns-3 c = search needs
@@ -52,14 +52,14 @@ returns-3 c = search needs
 returns-4 : tie.Need-returns-4
 returns-4 c = search needs
 
-collides-requires : tie.Need-collides-requires
-collides-requires c κs = search needs
+collides-in-bits-requires : tie.Need-collides-in-bits-requires
+collides-in-bits-requires c κs = search needs
 
 returns-5 : tie.Need-returns-5
 returns-5 c = search needs
 
-add-t19 : tie.Need-add-t19
-add-t19 c = omega (arith, directs (c .before .before .before .before .before))
+add-t17 : tie.Need-add-t17
+add-t17 c = omega (arith, directs (c .before .before .before .before .before))
 
 returns-6 : tie.Need-returns-6
 returns-6 c =
@@ -72,7 +72,7 @@ returns-6 c =
       known = rw k (sym (c .before .before .before .before .before .before .code .ensures) ∙ c .before .before .before .before .before .if1 .left);
       more = λ e. c .before .before .before .if2 .left (c .before .before .before .before .act .ensures ∙ rw (← k) e);
       allowed = omega arith;
-      alone = sym (c .if4 .left) ∙ c .before .collides .ensures;
+      alone = sym (c .if4 .left) ∙ c .before .collides-in-bits .ensures;
       state = rw (k, ← (f .past));
     }
 
@@ -91,7 +91,7 @@ head-spec =
     act-requires
     returns-3
     returns-4
-    collides-requires
+    collides-in-bits-requires
     returns-5
-    add-t19
+    add-t17
     returns-6)

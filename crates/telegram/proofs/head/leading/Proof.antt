@@ -7,19 +7,19 @@ use Rattle.telegram.proofs.head.leading.Statement.{statement}
 use Rattle.telegram.proofs.head.leading.Tie as tie
 
 head-requires : tie.Need-head-requires
-head-requires c κs = c .before .before .before .before .before .pre .table
+head-requires c κs = c .before .before .before .before .pre .table
 
 returns : tie.Need-returns
-returns c = led-packet (now (c .before .before .before .before .before .before .args .s)) (c .before .before .before .before .before .before .args .n) (now (c .before .before .before .before .before .before .args .seen)) (c .before .before .before .before .before .before .args .met) (c .before .before .before .before .before .before .args .st) (c .head .result) (c .before .if1 .taken) (c .head .ensures)
+returns c = led-packet (now (c .before .before .before .before .before .args .s)) (c .before .before .before .before .before .args .n) (c .before .before .before .before .before .args .st) (c .head .result) (c .before .if1 .taken) (c .head .ensures)
 
 act-requires : tie.Need-act-requires
-act-requires c κs = c .before .before .before .before .before .pre
+act-requires c κs = c .before .before .before .before .pre
 
 inner-requires : tie.Need-inner-requires
-inner-requires c κs = c .before .before .before .before .before .before .before .pre .table
+inner-requires c κs = c .before .before .before .before .before .before .pre .table
 
 returns-2 : tie.Need-returns-2
-returns-2 c = led-inner (now (c .before .before .before .before .before .before .before .before .args .s)) (c .before .before .before .before .before .before .before .before .args .n) (now (c .before .before .before .before .before .before .before .before .args .seen)) (c .before .before .before .before .before .before .before .before .args .met) (c .before .before .before .before .before .before .before .before .args .st) (c .inner .result) (c .before .before .before .if1 .left) (sym (c .before .before .act .ensures) ∙ c .before .if2 .taken) (c .inner .ensures)
+returns-2 c = led-inner (now (c .before .before .before .before .before .before .before .args .s)) (c .before .before .before .before .before .before .before .args .n) (c .before .before .before .before .before .before .before .args .st) (c .inner .result) (c .before .before .before .if1 .left) (sym (c .before .before .act .ensures) ∙ c .before .if2 .taken) (c .inner .ensures)
 
 returns-3 : tie.Need-returns-3
 returns-3 c = search needs

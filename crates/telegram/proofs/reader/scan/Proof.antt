@@ -24,8 +24,8 @@ enum-told c = search needs
 
 walk-requires : tie.Need-walk-requires
 walk-requires c κs =
-    ⊎-elim (λ w. rw (w .3, w .4) (scans-fronted _ _ _ _ (c .before .before .before .before .before .before .before .pre .0) (c .before .before .before .before .before .before .before .pre .1) (c .before .before .before .before .before .rows .ensures) refl (rw (w .1 .given .1) at (c .before .before .before .header .ensures))))
-    (λ w. rw (w .2, w .3) (scans-here (scans-first (c .before .before .before .before .before .before .before .pre .0) (c .before .before .before .before .before .before .before .pre .1) (c .before .before .before .before .before .rows .ensures) refl (c .before .before .before .before .begin .ensures)))) (c .before .before .match .came)
+    ⊎-elim (λ w. rw (w .3, w .4) (scans-fronted _ _ _ (c .before .before .before .before .before .before .pre .0) (c .before .before .before .before .before .before .pre .1) (c .before .before .before .before .rows .ensures) (rw (w .1 .given .1) at (c .before .before .header .ensures))))
+    (λ w. rw (w .2, w .3) (scans-here (scans-first (c .before .before .before .before .before .before .pre .0) (c .before .before .before .before .before .before .pre .1) (c .before .before .before .before .rows .ensures) (c .before .before .before .begin .ensures)))) (c .before .match .came)
 
 returns : tie.Need-returns
 returns c = search needs

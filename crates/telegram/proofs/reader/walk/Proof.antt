@@ -8,16 +8,17 @@ use borrow.Author.Needs.{needs}
 use Rattle.states.specs.Reader.{answerOf}
 use Rattle.states.proofs.Drifting.{further}
 use Rattle.states.proofs.Driving.{starts-low}
-use Rattle.states.proofs.Heading.{led-id, led-dir, scans-led, less-led}
+use Rattle.states.proofs.Heading.{scans-led, less-led}
+use Rattle.states.proofs.LookedBack.{scans-passed}
 use Rattle.states.proofs.Scanning.{Scans, scans-here, scans-drifted, scans-slight, scans-closed, less-slight, scans-on, fits, less, ends-short, ends-broken, ends-well, ends-trailing}
 use Rattle.telegram.proofs.reader.walk.Statement.{statement}
 use Rattle.telegram.proofs.reader.walk.Tie as tie
 
 abbrev Inv-loop : tie.InvT-loop
-Inv-loop rows s n seen₀ before met₀ st₀ count₀ seen met st count = Scans s n rows seen met st (record { at = st .at }) count
+Inv-loop rows s n before st₀ count₀ st count = Scans s n rows st (record { at = st .at }) count
 
 abbrev μ-loop : tie.MeasureT-loop
-μ-loop rows s n seen₀ before met₀ st₀ count₀ seen met st count = n - st .at
+μ-loop rows s n before st₀ count₀ st count = n - st .at
 
 loop-holds : tie.Need-loop-holds Inv-loop μ-loop
 loop-holds c = c .before .pre
@@ -36,33 +37,27 @@ add-count c =
 
 leading-requires : tie.Need-leading-requires Inv-loop μ-loop
 leading-requires c κs =
-    let i = scans-drifted (c .before .before .before .before .before .before .loop .inv) (c .before .before .before .before .before .drift .ensures) in
+    let i = scans-drifted (c .before .before .before .before .loop .inv) (c .before .before .before .drift .ensures) in
     record { table = i .drives .table; inside = i .drives .sound .tidy .inside }
 
 enum-known-after : tie.Need-enum-known-after Inv-loop μ-loop
 enum-known-after c = search needs
 
-note-requires : tie.Need-note-requires Inv-loop μ-loop
-note-requires c κs =
-    let i = scans-drifted (c .before .before .before .before .before .before .before .before .before .before .before .before .loop .inv) (c .before .before .before .before .before .before .before .before .before .before .before .drift .ensures) in
-    let o = rw (c .before .before .before .after .given .1) at (c .before .before .before .before .before .leading .ensures) in
-    record { inside = omega (arith, i .drives .noted, i .within, i .low, i .drives .long); small = led-id i o; fits = led-dir i o }
-
 add-count-2 : tie.Need-add-count-2 Inv-loop μ-loop
 add-count-2 c =
-    let i = scans-drifted (c .before .before .before .before .before .before .before .before .before .before .before .before .before .loop .inv) (c .before .before .before .before .before .before .before .before .before .before .before .before .drift .ensures) in
+    let i = scans-drifted (c .before .before .before .before .before .before .before .before .loop .inv) (c .before .before .before .before .before .before .before .drift .ensures) in
     omega (arith, i .few, i .within, i .low)
 
 loop-less : tie.Need-loop-less Inv-loop μ-loop
 loop-less c =
-    let i = scans-drifted (c .before .before .before .before .before .before .before .before .before .before .before .before .before .loop .inv) (c .before .before .before .before .before .before .before .before .before .before .before .before .drift .ensures) in
-    let l = less-led i (rw (c .before .before .before .before .after .given .1) at (c .before .before .before .before .before .before .leading .ensures)) in
-    omega (arith, further (c .before .before .before .before .before .before .before .before .before .before .before .before .drift .ensures))
+    let i = scans-drifted (c .before .before .before .before .before .before .before .before .loop .inv) (c .before .before .before .before .before .before .before .drift .ensures) in
+    let l = less-led i (rw (c .before .after .given .1) at (c .before .before .before .leading .ensures)) in
+    omega (arith, further (c .before .before .before .before .before .before .before .drift .ensures))
 
 loop-again : tie.Need-loop-again Inv-loop μ-loop
 loop-again c =
-    let i = scans-drifted (c .before .before .before .before .before .before .before .before .before .before .before .before .before .loop .inv) (c .before .before .before .before .before .before .before .before .before .before .before .before .drift .ensures) in
-    scans-led i (rw (c .before .before .before .before .after .given .1) at (c .before .before .before .before .before .before .leading .ensures)) (c .note .ensures)
+    let i = scans-drifted (c .before .before .before .before .before .before .before .before .loop .inv) (c .before .before .before .before .before .before .before .drift .ensures) in
+    scans-led i (rw (c .before .after .given .1) at (c .before .before .before .leading .ensures))
 
 enum-told : tie.Need-enum-told Inv-loop μ-loop
 enum-told c = search needs
@@ -71,7 +66,7 @@ enum-told c = search needs
 
 width-requires : tie.Need-width-requires Inv-loop μ-loop
 width-requires c κs =
-    let i = scans-drifted (c .before .before .before .before .before .before .before .before .before .loop .inv) (c .before .before .before .before .before .before .before .before .drift .ensures) in
+    let i = scans-drifted (c .before .before .before .before .before .before .before .loop .inv) (c .before .before .before .before .before .before .drift .ensures) in
     record { table = i .drives .table; inside = i .drives .sound .tidy .inside }
 
 take-requires : tie.Need-take-requires Inv-loop μ-loop
@@ -85,19 +80,19 @@ enum-told-2 c = search needs
 
 refused-requires : tie.Need-refused-requires Inv-loop μ-loop
 refused-requires c κs =
-    let i = scans-drifted (c .before .before .before .before .before .before .before .before .before .before .before .before .before .loop .inv) (c .before .before .before .before .before .before .before .before .before .before .before .before .drift .ensures) in
+    let i = scans-drifted (c .before .before .before .before .before .before .before .before .before .before .before .loop .inv) (c .before .before .before .before .before .before .before .before .before .before .drift .ensures) in
     starts-low (i .drives .sound) (omega (arith, i .within, i .low))
 
 returns : tie.Need-returns Inv-loop μ-loop
 returns c =
-    let i = scans-drifted (c .before .before .before .before .before .before .before .before .before .before .before .before .before .before .loop .inv) (c .before .before .before .before .before .before .before .before .before .before .before .before .before .drift .ensures) in
+    let i = scans-drifted (c .before .before .before .before .before .before .before .before .before .before .before .before .loop .inv) (c .before .before .before .before .before .before .before .before .before .before .before .drift .ensures) in
     c .refused .ensures [] ∙ sym (ap answerOf (ends-short i (c .before .before .before .before .width .ensures) (c .before .before .before .take .ensures) (c .before .enum-told2 .given .1) _))
 
 -- a value of which nothing is kept
 
 ease-requires : tie.Need-ease-requires Inv-loop μ-loop
 ease-requires c κs =
-    let i = scans-drifted (c .before .before .before .before .before .before .before .before .before .before .before .before .before .before .loop .inv) (c .before .before .before .before .before .before .before .before .before .before .before .before .before .drift .ensures) in
+    let i = scans-drifted (c .before .before .before .before .before .before .before .before .before .before .before .before .loop .inv) (c .before .before .before .before .before .before .before .before .before .before .before .drift .ensures) in
     (i .drives .table, i .drives .sound .tidy)
 
 enum-known-u : tie.Need-enum-known-u Inv-loop μ-loop
@@ -105,19 +100,19 @@ enum-known-u c = search needs
 
 add-count-3 : tie.Need-add-count-3 Inv-loop μ-loop
 add-count-3 c =
-    let i = scans-drifted (c .before .before .before .before .before .before .before .before .before .before .before .before .before .before .before .before .before .before .loop .inv) (c .before .before .before .before .before .before .before .before .before .before .before .before .before .before .before .before .before .drift .ensures) in
+    let i = scans-drifted (c .before .before .before .before .before .before .before .before .before .before .before .before .before .before .before .before .loop .inv) (c .before .before .before .before .before .before .before .before .before .before .before .before .before .before .before .drift .ensures) in
     omega (arith, i .few, i .within, i .low)
 
 loop-less-2 : tie.Need-loop-less-2 Inv-loop μ-loop
 loop-less-2 c =
-    let i = scans-drifted (c .before .before .before .before .before .before .before .before .before .before .before .before .before .before .before .before .before .before .loop .inv) (c .before .before .before .before .before .before .before .before .before .before .before .before .before .before .before .before .before .drift .ensures) in
+    let i = scans-drifted (c .before .before .before .before .before .before .before .before .before .before .before .before .before .before .before .before .loop .inv) (c .before .before .before .before .before .before .before .before .before .before .before .before .before .before .before .drift .ensures) in
     let q = rw (c .before .u .given .1) at (c .before .before .before .ease .ensures) in
     let l = less-slight i (c .before .before .before .before .before .before .before .before .width .ensures) (c .before .before .before .before .before .before .before .take .ensures) (c .before .before .before .before .before .v .given .1) (q .0) (q .1) in
-    omega (arith, further (c .before .before .before .before .before .before .before .before .before .before .before .before .before .before .before .before .before .drift .ensures))
+    omega (arith, further (c .before .before .before .before .before .before .before .before .before .before .before .before .before .before .before .drift .ensures))
 
 loop-again-2 : tie.Need-loop-again-2 Inv-loop μ-loop
 loop-again-2 c =
-    let i = scans-drifted (c .before .before .before .before .before .before .before .before .before .before .before .before .before .before .before .before .before .before .loop .inv) (c .before .before .before .before .before .before .before .before .before .before .before .before .before .before .before .before .before .drift .ensures) in
+    let i = scans-drifted (c .before .before .before .before .before .before .before .before .before .before .before .before .before .before .before .before .loop .inv) (c .before .before .before .before .before .before .before .before .before .before .before .before .before .before .before .drift .ensures) in
     let q = rw (c .before .u .given .1) at (c .before .before .before .ease .ensures) in
     scans-here (scans-slight i (c .before .before .before .before .before .before .before .before .width .ensures) (c .before .before .before .before .before .before .before .take .ensures) (c .before .before .before .before .before .v .given .1) (q .0) (q .1) (q .2))
 
@@ -134,19 +129,19 @@ fresh-requires c κs = search needs
 
 add-count-4 : tie.Need-add-count-4 Inv-loop μ-loop
 add-count-4 c =
-    let i = scans-drifted (c .before .before .before .before .before .before .before .before .before .before .before .before .before .before .before .before .before .before .before .before .loop .inv) (c .before .before .before .before .before .before .before .before .before .before .before .before .before .before .before .before .before .before .before .drift .ensures) in
+    let i = scans-drifted (c .before .before .before .before .before .before .before .before .before .before .before .before .before .before .before .before .before .before .loop .inv) (c .before .before .before .before .before .before .before .before .before .before .before .before .before .before .before .before .before .drift .ensures) in
     omega (arith, i .few, i .within, i .low)
 
 loop-less-3 : tie.Need-loop-less-3 Inv-loop μ-loop
 loop-less-3 c =
-    let i = scans-drifted (c .before .before .before .before .before .before .before .before .before .before .before .before .before .before .before .before .before .before .before .before .loop .inv) (c .before .before .before .before .before .before .before .before .before .before .before .before .before .before .before .before .before .before .before .drift .ensures) in
+    let i = scans-drifted (c .before .before .before .before .before .before .before .before .before .before .before .before .before .before .before .before .before .before .loop .inv) (c .before .before .before .before .before .before .before .before .before .before .before .before .before .before .before .before .before .drift .ensures) in
     let q = rw (c .before .before .before .enum-told3 .given .1) at (c .before .before .before .before .before .ease .ensures) in
     let l = less-slight i (c .before .before .before .before .before .before .before .before .before .before .width .ensures) (c .before .before .before .before .before .before .before .before .before .take .ensures) (c .before .before .before .before .before .before .before .v .given .1) (q .0) (q .1) in
-    rw (c .fresh .ensures) (omega (arith, further (c .before .before .before .before .before .before .before .before .before .before .before .before .before .before .before .before .before .before .before .drift .ensures)))
+    rw (c .fresh .ensures) (omega (arith, further (c .before .before .before .before .before .before .before .before .before .before .before .before .before .before .before .before .before .drift .ensures)))
 
 loop-again-3 : tie.Need-loop-again-3 Inv-loop μ-loop
 loop-again-3 c =
-    let i = scans-drifted (c .before .before .before .before .before .before .before .before .before .before .before .before .before .before .before .before .before .before .before .before .loop .inv) (c .before .before .before .before .before .before .before .before .before .before .before .before .before .before .before .before .before .before .before .drift .ensures) in
+    let i = scans-drifted (c .before .before .before .before .before .before .before .before .before .before .before .before .before .before .before .before .before .before .loop .inv) (c .before .before .before .before .before .before .before .before .before .before .before .before .before .before .before .before .before .drift .ensures) in
     let q = rw (c .before .before .before .enum-told3 .given .1) at (c .before .before .before .before .before .ease .ensures) in
     rw (c .fresh .ensures)
     (scans-here (scans-closed i (c .before .before .before .before .before .before .before .before .before .before .width .ensures) (c .before .before .before .before .before .before .before .before .before .take .ensures) (c .before .before .before .before .before .before .before .v .given .1) (q .0) (q .1) (q .2) (λ l. sym (c .before .before .closes .ensures l) ∙ c .before .if1 .taken)))
@@ -156,77 +151,71 @@ enum-told-4 c = search needs
 
 -- any other
 
-turn-requires : tie.Need-turn-requires Inv-loop μ-loop
-turn-requires c κs =
-    let i = scans-drifted (c .before .before .before .before .before .before .before .before .before .before .before .before .before .before .before .before .before .before .loop .inv) (c .before .before .before .before .before .before .before .before .before .before .before .before .before .before .before .before .before .drift .ensures) in
-    record {
-      stepping = record { table = i .drives .table; sound = i .drives .sound; low = omega (arith, i .within, i .low); fits = fits i (c .before .before .before .before .before .before .before .before .width .ensures) (c .before .before .before .before .before .before .before .take .ensures) (c .before .before .before .before .before .v .given .1) };
-      inside = omega (arith, i .drives .noted, i .within, i .low, i .drives .long);
-    }
+repeated-in-bits-requires : tie.Need-repeated-in-bits-requires Inv-loop μ-loop
+repeated-in-bits-requires c κs =
+    let i = scans-drifted (c .before .before .before .before .before .before .before .before .before .before .before .before .before .before .loop .inv) (c .before .before .before .before .before .before .before .before .before .before .before .before .before .drift .ensures) in
+    record { table = i .drives .table; inside = i .drives .sound .tidy .inside }
+
+step-requires : tie.Need-step-requires Inv-loop μ-loop
+step-requires c κs =
+    let i = scans-drifted (c .before .before .before .before .before .before .before .before .before .before .before .before .before .before .before .loop .inv) (c .before .before .before .before .before .before .before .before .before .before .before .before .before .before .drift .ensures) in
+    record { table = i .drives .table; sound = i .drives .sound; low = omega (arith, i .within, i .low); fits = fits i (c .before .before .before .before .before .before .before .width .ensures) (c .before .before .before .before .before .before .take .ensures) (c .before .before .before .before .v .given .1) }
 
 enum-known-kind : tie.Need-enum-known-kind Inv-loop μ-loop
 enum-known-kind c = search needs
 
 refused-requires-2 : tie.Need-refused-requires-2 Inv-loop μ-loop
 refused-requires-2 c κs =
-    let i = scans-drifted (c .before .before .before .before .before .before .before .before .before .before .before .before .before .before .before .before .before .before .before .before .before .before .loop .inv) (c .before .before .before .before .before .before .before .before .before .before .before .before .before .before .before .before .before .before .before .before .before .drift .ensures) in
+    let i = scans-drifted (c .before .before .before .before .before .before .before .before .before .before .before .before .before .before .before .before .before .before .before .loop .inv) (c .before .before .before .before .before .before .before .before .before .before .before .before .before .before .before .before .before .before .drift .ensures) in
     starts-low (i .drives .sound) (omega (arith, i .within, i .low))
 
 returns-2 : tie.Need-returns-2 Inv-loop μ-loop
 returns-2 c =
-    let i = scans-drifted (c .before .before .before .before .before .before .before .before .before .before .before .before .before .before .before .before .before .before .before .before .before .before .before .loop .inv) (c .before .before .before .before .before .before .before .before .before .before .before .before .before .before .before .before .before .before .before .before .before .before .drift .ensures) in
-    c .refused2 .ensures [] ∙ sym (ap answerOf (ends-broken i (c .before .before .before .before .before .before .before .before .before .before .before .before .before .width .ensures) (c .before .before .before .before .before .before .before .before .before .before .before .before .take .ensures) (c .before .before .before .before .before .before .before .before .before .before .v .given .1) (c .before .before .before .before .turn .ensures) (c .before .before .kind .given .1)))
+    let i = scans-drifted (c .before .before .before .before .before .before .before .before .before .before .before .before .before .before .before .before .before .before .before .before .loop .inv) (c .before .before .before .before .before .before .before .before .before .before .before .before .before .before .before .before .before .before .before .drift .ensures) in
+    c .refused2 .ensures [] ∙ sym (ap answerOf (ends-broken i (c .before .before .before .before .before .before .before .before .before .before .before .before .width .ensures) (c .before .before .before .before .before .before .before .before .before .before .before .take .ensures) (c .before .before .before .before .before .before .before .before .before .v .given .1) (scans-passed i _ (c .before .before .before .before .before .repeated-in-bits .ensures) (c .before .before .before .before .step .ensures)) (c .before .before .kind .given .1)))
 
 enum-told-5 : tie.Need-enum-told-5 Inv-loop μ-loop
 enum-told-5 c = search needs
 
-add-t35 : tie.Need-add-t35 Inv-loop μ-loop
-add-t35 c =
-    let i = scans-drifted (c .before .before .before .before .before .before .before .before .before .before .before .before .before .before .before .before .before .before .before .before .before .before .before .loop .inv) (c .before .before .before .before .before .before .before .before .before .before .before .before .before .before .before .before .before .before .before .before .before .before .drift .ensures) in
+add-t27 : tie.Need-add-t27 Inv-loop μ-loop
+add-t27 c =
+    let i = scans-drifted (c .before .before .before .before .before .before .before .before .before .before .before .before .before .before .before .before .before .before .before .before .loop .inv) (c .before .before .before .before .before .before .before .before .before .before .before .before .before .before .before .before .before .before .before .drift .ensures) in
     omega (arith, i .few, i .within, i .low)
 
 returns-3 : tie.Need-returns-3 Inv-loop μ-loop
 returns-3 c =
-    let i = scans-drifted (c .before .before .before .before .before .before .before .before .before .before .before .before .before .before .before .before .before .before .before .before .before .before .before .loop .inv) (c .before .before .before .before .before .before .before .before .before .before .before .before .before .before .before .before .before .before .before .before .before .before .drift .ensures) in
-    ends-well i (c .before .before .before .before .before .before .before .before .before .before .before .before .before .width .ensures) (c .before .before .before .before .before .before .before .before .before .before .before .before .take .ensures) (c .before .before .before .before .before .before .before .before .before .before .v .given .1) (c .before .before .before .before .turn .ensures) (c .before .before .enum-told5 .given .1) (c .if2 .taken)
+    let i = scans-drifted (c .before .before .before .before .before .before .before .before .before .before .before .before .before .before .before .before .before .before .before .before .loop .inv) (c .before .before .before .before .before .before .before .before .before .before .before .before .before .before .before .before .before .before .before .drift .ensures) in
+    ends-well i (c .before .before .before .before .before .before .before .before .before .before .before .before .width .ensures) (c .before .before .before .before .before .before .before .before .before .before .before .take .ensures) (c .before .before .before .before .before .before .before .before .before .v .given .1) (scans-passed i _ (c .before .before .before .before .before .repeated-in-bits .ensures) (c .before .before .before .before .step .ensures)) (c .before .before .enum-told5 .given .1) (c .if2 .taken)
 
 refused-requires-3 : tie.Need-refused-requires-3 Inv-loop μ-loop
 refused-requires-3 c κs =
-    let i = scans-drifted (c .before .before .before .before .before .before .before .before .before .before .before .before .before .before .before .before .before .before .before .before .before .before .before .loop .inv) (c .before .before .before .before .before .before .before .before .before .before .before .before .before .before .before .before .before .before .before .before .before .before .drift .ensures) in
+    let i = scans-drifted (c .before .before .before .before .before .before .before .before .before .before .before .before .before .before .before .before .before .before .before .before .loop .inv) (c .before .before .before .before .before .before .before .before .before .before .before .before .before .before .before .before .before .before .before .drift .ensures) in
     starts-low (i .drives .sound) (omega (arith, i .within, i .low))
 
 returns-4 : tie.Need-returns-4 Inv-loop μ-loop
 returns-4 c =
-    let i = scans-drifted (c .before .before .before .before .before .before .before .before .before .before .before .before .before .before .before .before .before .before .before .before .before .before .before .before .loop .inv) (c .before .before .before .before .before .before .before .before .before .before .before .before .before .before .before .before .before .before .before .before .before .before .before .drift .ensures) in
+    let i = scans-drifted (c .before .before .before .before .before .before .before .before .before .before .before .before .before .before .before .before .before .before .before .before .before .loop .inv) (c .before .before .before .before .before .before .before .before .before .before .before .before .before .before .before .before .before .before .before .before .drift .ensures) in
     c .refused3 .ensures []
-    ∙ sym (ap answerOf (ends-trailing i (c .before .before .before .before .before .before .before .before .before .before .before .before .before .before .width .ensures) (c .before .before .before .before .before .before .before .before .before .before .before .before .before .take .ensures) (c .before .before .before .before .before .before .before .before .before .before .before .v .given .1) (c .before .before .before .before .before .turn .ensures) (c .before .before .before .enum-told5 .given .1) (c .before .if2 .left)))
+    ∙ sym (ap answerOf (ends-trailing i (c .before .before .before .before .before .before .before .before .before .before .before .before .before .width .ensures) (c .before .before .before .before .before .before .before .before .before .before .before .before .take .ensures) (c .before .before .before .before .before .before .before .before .before .before .v .given .1) (scans-passed i _ (c .before .before .before .before .before .before .repeated-in-bits .ensures) (c .before .before .before .before .before .step .ensures)) (c .before .before .before .enum-told5 .given .1) (c .before .if2 .left)))
 
 enum-known-after-2 : tie.Need-enum-known-after-2 Inv-loop μ-loop
 enum-known-after-2 c = search needs
 
-keep-requires : tie.Need-keep-requires Inv-loop μ-loop
-keep-requires c κs =
-    let i = scans-drifted (c .before .before .before .before .before .before .before .before .before .before .before .before .before .before .before .before .before .before .before .before .before .before .before .loop .inv) (c .before .before .before .before .before .before .before .before .before .before .before .before .before .before .before .before .before .before .before .before .before .before .drift .ensures) in
-    record {
-      stepping = record { table = i .drives .table; sound = i .drives .sound; low = omega (arith, i .within, i .low); fits = fits i (c .before .before .before .before .before .before .before .before .before .before .before .before .before .width .ensures) (c .before .before .before .before .before .before .before .before .before .before .before .before .take .ensures) (c .before .before .before .before .before .before .before .before .before .before .v .given .1) };
-      inside = omega (arith, i .drives .noted, i .within, i .low, i .drives .long);
-    }
-
 add-count-5 : tie.Need-add-count-5 Inv-loop μ-loop
 add-count-5 c =
-    let i = scans-drifted (c .before .before .before .before .before .before .before .before .before .before .before .before .before .before .before .before .before .before .before .before .before .before .before .before .loop .inv) (c .before .before .before .before .before .before .before .before .before .before .before .before .before .before .before .before .before .before .before .before .before .before .before .drift .ensures) in
+    let i = scans-drifted (c .before .before .before .before .before .before .before .before .before .before .before .before .before .before .before .before .before .before .before .loop .inv) (c .before .before .before .before .before .before .before .before .before .before .before .before .before .before .before .before .before .before .drift .ensures) in
     omega (arith, i .few, i .within, i .low)
 
 loop-less-4 : tie.Need-loop-less-4 Inv-loop μ-loop
 loop-less-4 c =
-    let i = scans-drifted (c .before .before .before .before .before .before .before .before .before .before .before .before .before .before .before .before .before .before .before .before .before .before .before .before .loop .inv) (c .before .before .before .before .before .before .before .before .before .before .before .before .before .before .before .before .before .before .before .before .before .before .before .drift .ensures) in
-    let l = less i (c .before .before .before .before .before .before .before .before .before .before .before .before .before .before .width .ensures) (c .before .before .before .before .before .before .before .before .before .before .before .before .before .take .ensures) (c .before .before .before .before .before .before .before .before .before .before .before .v .given .1) (c .before .before .before .before .before .turn .ensures) (c .before .before .before .after2 .given .1) in
-    omega (arith, further (c .before .before .before .before .before .before .before .before .before .before .before .before .before .before .before .before .before .before .before .before .before .before .before .drift .ensures))
+    let i = scans-drifted (c .before .before .before .before .before .before .before .before .before .before .before .before .before .before .before .before .before .before .before .loop .inv) (c .before .before .before .before .before .before .before .before .before .before .before .before .before .before .before .before .before .before .drift .ensures) in
+    let l = less i (c .before .before .before .before .before .before .before .before .before .before .before .width .ensures) (c .before .before .before .before .before .before .before .before .before .before .take .ensures) (c .before .before .before .before .before .before .before .before .v .given .1) (scans-passed i _ (c .before .before .before .before .repeated-in-bits .ensures) (c .before .before .before .step .ensures)) (c .before .after2 .given .1) in
+    omega (arith, further (c .before .before .before .before .before .before .before .before .before .before .before .before .before .before .before .before .before .before .drift .ensures))
 
 loop-again-4 : tie.Need-loop-again-4 Inv-loop μ-loop
 loop-again-4 c =
-    let i = scans-drifted (c .before .before .before .before .before .before .before .before .before .before .before .before .before .before .before .before .before .before .before .before .before .before .before .before .loop .inv) (c .before .before .before .before .before .before .before .before .before .before .before .before .before .before .before .before .before .before .before .before .before .before .before .drift .ensures) in
-    scans-here (scans-on i (c .before .before .before .before .before .before .before .before .before .before .before .before .before .before .width .ensures) (c .before .before .before .before .before .before .before .before .before .before .before .before .before .take .ensures) (c .before .before .before .before .before .before .before .before .before .before .before .v .given .1) (c .before .before .before .before .before .turn .ensures) (c .before .before .before .after2 .given .1) (c .keep .ensures))
+    let i = scans-drifted (c .before .before .before .before .before .before .before .before .before .before .before .before .before .before .before .before .before .before .before .loop .inv) (c .before .before .before .before .before .before .before .before .before .before .before .before .before .before .before .before .before .before .drift .ensures) in
+    scans-here (scans-on i (c .before .before .before .before .before .before .before .before .before .before .before .width .ensures) (c .before .before .before .before .before .before .before .before .before .before .take .ensures) (c .before .before .before .before .before .before .before .before .v .given .1) (scans-passed i _ (c .before .before .before .before .repeated-in-bits .ensures) (c .before .before .before .step .ensures)) (c .before .after2 .given .1))
 
 pub walk-spec : {M : Type 1} → statement M
 walk-spec =
@@ -239,7 +228,6 @@ walk-spec =
     add-count
     leading-requires
     enum-known-after
-    note-requires
     add-count-2
     loop-less
     loop-again
@@ -262,17 +250,17 @@ walk-spec =
     loop-less-3
     loop-again-3
     enum-told-4
-    turn-requires
+    repeated-in-bits-requires
+    step-requires
     enum-known-kind
     refused-requires-2
     returns-2
     enum-told-5
-    add-t35
+    add-t27
     returns-3
     refused-requires-3
     returns-4
     enum-known-after-2
-    keep-requires
     add-count-5
     loop-less-4
     loop-again-4)

@@ -12,14 +12,15 @@ use Rattle.states.specs.Writer.{sizeOf}
 use Rattle.states.proofs.Driving.{starts-low}
 use Rattle.states.proofs.Stepping.{width-in}
 use Rattle.states.proofs.Measuring.{Measures, measures-first, measures-on, fits, ends-none, ends-wide, ends-full, ends-broken, ends-well, ends-trailing}
+use Rattle.states.proofs.Walking.{measures-passed}
 use Rattle.telegram.proofs.writer.measure.Statement.{statement}
 use Rattle.telegram.proofs.writer.measure.Tie as tie
 
 abbrev Inv-loop : tie.InvT-loop
-Inv-loop values rows seen₀ met₀ st₀ i₀ seen met st i = Measures values rows seen met st i
+Inv-loop values rows st₀ i₀ st i = Measures values rows st i
 
 abbrev μ-loop : tie.MeasureT-loop
-μ-loop values rows seen₀ met₀ st₀ i₀ seen met st i = length values - i
+μ-loop values rows st₀ i₀ st i = length values - i
 
 rows-requires : tie.Need-rows-requires Inv-loop μ-loop
 rows-requires c κs = search needs
@@ -28,7 +29,7 @@ begin-requires : tie.Need-begin-requires Inv-loop μ-loop
 begin-requires c κs = search needs
 
 loop-holds : tie.Need-loop-holds Inv-loop μ-loop
-loop-holds c = measures-first (c .before .rows .ensures) refl (c .begin .ensures)
+loop-holds c = measures-first (c .before .rows .ensures) (c .begin .ensures)
 
 width-requires : tie.Need-width-requires Inv-loop μ-loop
 width-requires c κs = record { table = c .before .before .loop .inv .drives .table; inside = c .before .before .loop .inv .drives .sound .tidy .inside }
@@ -69,26 +70,25 @@ returns-3 : tie.Need-returns-3 Inv-loop μ-loop
 returns-3 c =
     c .refused3 .ensures [] ∙ sym (ap sizeOf (ends-full (c .before .before .before .before .before .before .before .before .before .before .loop .inv) (c .before .before .before .before .before .if1 .left) (c .before .before .before .before .before .before .before .width .ensures) (sym (c .before .before .before .fits2 .ensures) ∙ not-false _ (c .before .before .if2 .left)) (omega (arith, c .before .if3 .taken)) _))
 
-slice-aggregate-turn : tie.Need-slice-aggregate-turn Inv-loop μ-loop
-slice-aggregate-turn c = sym (c .before .before .before .before .before .before .before .before .before .before .before .loop .inv .drives .long)
-
-turn-requires : tie.Need-turn-requires Inv-loop μ-loop
-turn-requires c κs =
+repeated-in-values-requires : tie.Need-repeated-in-values-requires Inv-loop μ-loop
+repeated-in-values-requires c κs =
     let m = c .before .before .before .before .before .before .before .before .before .before .before .loop .inv in
-    record {
-      stepping = record { table = m .drives .table; sound = m .drives .sound; low = omega (arith, m .low); fits = fits (c .before .before .before .before .before .before .before .before .before .before .before .loop .inv) (c .before .before .before .before .before .before .if1 .left) (c .before .before .before .before .before .before .before .before .width .ensures) (sym (c .before .before .before .before .fits2 .ensures) ∙ not-false _ (c .before .before .before .if2 .left)) };
-      inside = omega (arith, m .drives .noted, m .low, m .drives .long);
-    }
+    (record { table = m .drives .table; inside = m .drives .sound .tidy .inside }, m .within)
+
+step-requires : tie.Need-step-requires Inv-loop μ-loop
+step-requires c κs =
+    let m = c .before .before .before .before .before .before .before .before .before .before .before .before .loop .inv in
+    record { table = m .drives .table; sound = m .drives .sound; low = omega (arith, m .low); fits = fits m (c .before .before .before .before .before .before .before .if1 .left) (c .before .before .before .before .before .before .before .before .before .width .ensures) (sym (c .before .before .before .before .before .fits2 .ensures) ∙ not-false _ (c .before .before .before .before .if2 .left)) }
 
 enum-known-kind : tie.Need-enum-known-kind Inv-loop μ-loop
 enum-known-kind c = search needs
 
 refused-requires-4 : tie.Need-refused-requires-4 Inv-loop μ-loop
-refused-requires-4 c κs = starts-low (c .before .before .before .before .before .before .before .before .before .before .before .before .before .before .before .loop .inv .drives .sound) (c .before .before .before .before .before .before .before .before .before .before .before .before .before .before .before .loop .inv .low)
+refused-requires-4 c κs = starts-low (c .before .before .before .before .before .before .before .before .before .before .before .before .before .before .before .before .loop .inv .drives .sound) (c .before .before .before .before .before .before .before .before .before .before .before .before .before .before .before .before .loop .inv .low)
 
 returns-4 : tie.Need-returns-4 Inv-loop μ-loop
 returns-4 c =
-    c .refused4 .ensures [] ∙ sym (ap sizeOf (ends-broken (c .before .before .before .before .before .before .before .before .before .before .before .before .before .before .before .before .loop .inv) (c .before .before .before .before .before .before .before .before .before .before .before .if1 .left) (c .before .before .before .before .before .before .before .before .before .before .before .before .before .width .ensures) (sym (c .before .before .before .before .before .before .before .before .before .fits2 .ensures) ∙ not-false _ (c .before .before .before .before .before .before .before .before .if2 .left)) (c .before .before .before .before .before .before .before .if3 .left) (c .before .before .before .before .turn .ensures) (c .before .before .kind .given .1)))
+    c .refused4 .ensures [] ∙ sym (ap sizeOf (ends-broken (c .before .before .before .before .before .before .before .before .before .before .before .before .before .before .before .before .before .loop .inv) (c .before .before .before .before .before .before .before .before .before .before .before .before .if1 .left) (c .before .before .before .before .before .before .before .before .before .before .before .before .before .before .width .ensures) (sym (c .before .before .before .before .before .before .before .before .before .before .fits2 .ensures) ∙ not-false _ (c .before .before .before .before .before .before .before .before .before .if2 .left)) (c .before .before .before .before .before .before .before .before .if3 .left) (measures-passed (c .before .before .before .before .before .before .before .before .before .before .before .before .before .before .before .before .before .loop .inv) _ (c .before .before .before .before .before .repeated-in-values .ensures) (c .before .before .before .before .step .ensures)) (c .before .before .kind .given .1)))
 
 enum-told : tie.Need-enum-told Inv-loop μ-loop
 enum-told c = search needs
@@ -97,38 +97,27 @@ add-if4 : tie.Need-add-if4 Inv-loop μ-loop
 add-if4 c = omega arith
 
 returns-5 : tie.Need-returns-5 Inv-loop μ-loop
-returns-5 c = ends-well (c .before .before .before .before .before .before .before .before .before .before .before .before .before .before .before .loop .inv) (c .before .before .before .before .before .before .before .before .before .before .if1 .left) (c .before .before .before .before .before .before .before .before .before .before .before .before .width .ensures) (sym (c .before .before .before .before .before .before .before .before .fits2 .ensures) ∙ not-false _ (c .before .before .before .before .before .before .before .if2 .left)) (c .before .before .before .before .before .before .if3 .left) (c .before .before .before .turn .ensures) (c .before .enum-told .given .1) (c .if4 .taken)
+returns-5 c = ends-well (c .before .before .before .before .before .before .before .before .before .before .before .before .before .before .before .before .loop .inv) (c .before .before .before .before .before .before .before .before .before .before .before .if1 .left) (c .before .before .before .before .before .before .before .before .before .before .before .before .before .width .ensures) (sym (c .before .before .before .before .before .before .before .before .before .fits2 .ensures) ∙ not-false _ (c .before .before .before .before .before .before .before .before .if2 .left)) (c .before .before .before .before .before .before .before .if3 .left) (measures-passed (c .before .before .before .before .before .before .before .before .before .before .before .before .before .before .before .before .loop .inv) _ (c .before .before .before .before .repeated-in-values .ensures) (c .before .before .before .step .ensures)) (c .before .enum-told .given .1) (c .if4 .taken)
 
 refused-requires-5 : tie.Need-refused-requires-5 Inv-loop μ-loop
-refused-requires-5 c κs = starts-low (c .before .before .before .before .before .before .before .before .before .before .before .before .before .before .before .loop .inv .drives .sound) (c .before .before .before .before .before .before .before .before .before .before .before .before .before .before .before .loop .inv .low)
+refused-requires-5 c κs = starts-low (c .before .before .before .before .before .before .before .before .before .before .before .before .before .before .before .before .loop .inv .drives .sound) (c .before .before .before .before .before .before .before .before .before .before .before .before .before .before .before .before .loop .inv .low)
 
 returns-6 : tie.Need-returns-6 Inv-loop μ-loop
 returns-6 c =
     c .refused5 .ensures []
-    ∙ sym (ap sizeOf (ends-trailing (c .before .before .before .before .before .before .before .before .before .before .before .before .before .before .before .before .loop .inv) (c .before .before .before .before .before .before .before .before .before .before .before .if1 .left) (c .before .before .before .before .before .before .before .before .before .before .before .before .before .width .ensures) (sym (c .before .before .before .before .before .before .before .before .before .fits2 .ensures) ∙ not-false _ (c .before .before .before .before .before .before .before .before .if2 .left)) (c .before .before .before .before .before .before .before .if3 .left) (c .before .before .before .before .turn .ensures) (c .before .before .enum-told .given .1) (c .before .if4 .left)))
+    ∙ sym (ap sizeOf (ends-trailing (c .before .before .before .before .before .before .before .before .before .before .before .before .before .before .before .before .before .loop .inv) (c .before .before .before .before .before .before .before .before .before .before .before .before .if1 .left) (c .before .before .before .before .before .before .before .before .before .before .before .before .before .before .width .ensures) (sym (c .before .before .before .before .before .before .before .before .before .before .fits2 .ensures) ∙ not-false _ (c .before .before .before .before .before .before .before .before .before .if2 .left)) (c .before .before .before .before .before .before .before .before .if3 .left) (measures-passed (c .before .before .before .before .before .before .before .before .before .before .before .before .before .before .before .before .before .loop .inv) _ (c .before .before .before .before .before .repeated-in-values .ensures) (c .before .before .before .before .step .ensures)) (c .before .before .enum-told .given .1) (c .before .if4 .left)))
 
 enum-known-after : tie.Need-enum-known-after Inv-loop μ-loop
 enum-known-after c = search needs
 
-slice-aggregate-keep : tie.Need-slice-aggregate-keep Inv-loop μ-loop
-slice-aggregate-keep c = sym (c .before .before .before .before .before .before .before .before .before .before .before .before .before .before .before .before .before .loop .inv .drives .long)
-
-keep-requires : tie.Need-keep-requires Inv-loop μ-loop
-keep-requires c κs =
-    let m = c .before .before .before .before .before .before .before .before .before .before .before .before .before .before .before .before .before .loop .inv in
-    record {
-      stepping = record { table = m .drives .table; sound = m .drives .sound; low = omega (arith, m .low); fits = fits (c .before .before .before .before .before .before .before .before .before .before .before .before .before .before .before .before .before .loop .inv) (c .before .before .before .before .before .before .before .before .before .before .before .before .if1 .left) (c .before .before .before .before .before .before .before .before .before .before .before .before .before .before .width .ensures) (sym (c .before .before .before .before .before .before .before .before .before .before .fits2 .ensures) ∙ not-false _ (c .before .before .before .before .before .before .before .before .before .if2 .left)) };
-      inside = omega (arith, m .drives .noted, m .low, m .drives .long);
-    }
-
 add-i : tie.Need-add-i Inv-loop μ-loop
-add-i c = omega (arith, c .before .before .before .before .before .before .before .before .before .before .before .before .before .before .before .before .before .before .before .before .before .before .before .good, c .before .before .before .before .before .before .before .before .before .before .before .before .before .before .if1 .left)
+add-i c = omega (arith, c .before .before .before .before .before .before .before .before .before .before .before .before .before .before .before .before .before .before .before .before .good, c .before .before .before .before .before .before .before .before .before .before .before .if1 .left)
 
 loop-less : tie.Need-loop-less Inv-loop μ-loop
 loop-less c = omega arith
 
 loop-again : tie.Need-loop-again Inv-loop μ-loop
-loop-again c = measures-on (c .before .before .before .before .before .before .before .before .before .before .before .before .before .before .before .before .before .before .before .loop .inv) (c .before .before .before .before .before .before .before .before .before .before .before .before .before .before .if1 .left) (c .before .before .before .before .before .before .before .before .before .before .before .before .before .before .before .before .width .ensures) (sym (c .before .before .before .before .before .before .before .before .before .before .before .before .fits2 .ensures) ∙ not-false _ (c .before .before .before .before .before .before .before .before .before .before .before .if2 .left)) (c .before .before .before .before .before .before .before .before .before .before .if3 .left) (c .before .before .before .before .before .before .before .turn .ensures) (c .before .before .before .before .before .after .given .1) (c .before .keep .ensures)
+loop-again c = measures-on (c .before .before .before .before .before .before .before .before .before .before .before .before .before .before .before .before .loop .inv) (c .before .before .before .before .before .before .before .before .before .before .before .if1 .left) (c .before .before .before .before .before .before .before .before .before .before .before .before .before .width .ensures) (sym (c .before .before .before .before .before .before .before .before .before .fits2 .ensures) ∙ not-false _ (c .before .before .before .before .before .before .before .before .if2 .left)) (c .before .before .before .before .before .before .before .if3 .left) (measures-passed (c .before .before .before .before .before .before .before .before .before .before .before .before .before .before .before .before .loop .inv) _ (c .before .before .before .before .repeated-in-values .ensures) (c .before .before .before .step .ensures)) (c .before .after .given .1)
 
 pub measure-spec : {M : Type 1} → statement M
 measure-spec =
@@ -150,8 +139,8 @@ measure-spec =
     returns-2
     refused-requires-3
     returns-3
-    slice-aggregate-turn
-    turn-requires
+    repeated-in-values-requires
+    step-requires
     enum-known-kind
     refused-requires-4
     returns-4
@@ -161,8 +150,6 @@ measure-spec =
     refused-requires-5
     returns-6
     enum-known-after
-    slice-aggregate-keep
-    keep-requires
     add-i
     loop-less
     loop-again)

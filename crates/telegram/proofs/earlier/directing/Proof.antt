@@ -1,9 +1,9 @@
--- `telegram::driver::directing` meets its contract: the code of Q_DIR, in a packet and not in the CTCS packet inside one. Assumes nothing.
+-- `telegram::earlier::directing` meets its contract: the code of Q_DIR, in a packet and not in the CTCS packet inside one. Assumes nothing.
 use mathlib.Core.Path.{_∙_, sym}
 use borrow.Author.Needs.{needs}
 use Rattle.states.proofs.Directions.{directs-not, directs-elsewhere, directs-here, not-header, not-user}
-use Rattle.telegram.proofs.driver.directing.Statement.{statement}
-use Rattle.telegram.proofs.driver.directing.Tie as tie
+use Rattle.telegram.proofs.earlier.directing.Statement.{statement}
+use Rattle.telegram.proofs.earlier.directing.Tie as tie
 
 code-requires : tie.Need-code-requires
 code-requires c κs = search needs

@@ -1,0 +1,20 @@
+-- `telegram::earlier::repeated_in_bits` meets its contract: at a packet's Q_DIR the packets before are looked at; elsewhere nothing asks. Assumes nothing.
+use borrow.Author.Needs.{needs}
+use borrow.Author.Tests.{not-true}
+use Rattle.telegram.proofs.earlier.repeated_in_bits.Statement.{statement}
+use Rattle.telegram.proofs.earlier.repeated_in_bits.Tie as tie
+
+directing-requires : tie.Need-directing-requires
+directing-requires c κs = search needs
+
+returns : tie.Need-returns
+returns c = λ k l. absurd (c .before .directing .ensures .no (not-true _ (c .if1 .taken)) k l)
+
+collides-in-bits-requires : tie.Need-collides-in-bits-requires
+collides-in-bits-requires c κs = search needs
+
+returns-2 : tie.Need-returns-2
+returns-2 c = λ k l. c .collides-in-bits .ensures
+
+pub repeated-in-bits-spec : {M : Type 1} → statement M
+repeated-in-bits-spec = tie.close (tie.spec directing-requires returns collides-in-bits-requires returns-2)
