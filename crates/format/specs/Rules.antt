@@ -261,9 +261,14 @@ unfoldable pub among : (ℕ → ℕ → Bool) → ℕ → ℕ → List Earlier �
 among collide i d [] = false
 among collide i d (e ∷ es) = eqb i (e .id) && collide d (e .dir) || among collide i d es
 
--- "10: a second packet, other than ETCS-44, has the NID_PACKET .. of an earlier one", and a direction that collides with its Q_DIR
+-- "10: a second packet, other than ETCS-44, has the NID_PACKET .. of an earlier one", and a direction that collides with its Q_DIR: whether a
+-- packet with this NID_PACKET and Q_DIR collides with one of these
+abbrev pub collidesAmong : (ℕ → ℕ → Bool) → ℕ → ℕ → List Earlier → Bool
+collidesAmong collide i d before = not (eqb i 44) && among collide i d before
+
+-- of the packet in hand, for the Q_DIR that it holds
 unfoldable pub collidesBy : (ℕ → ℕ → Bool) → Context → ℕ → Bool
-collidesBy collide c v = not (eqb (c .id) 44) && among collide (c .id) v (c .earlier)
+collidesBy collide c v = collidesAmong collide (c .id) v (c .earlier)
 
 -- the terms that hold
 abbrev pub paper : Terms

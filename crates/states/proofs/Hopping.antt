@@ -14,14 +14,14 @@ use Rattle.bits.specs.declared.Taken.{Taken}
 use Rattle.bits.specs.declared.Taken.the-variants.{Field, Short}
 use Rattle.bits.specs.declared.Skipped.the-variants.{To, Lacking}
 use Rattle.bits.proofs.Fields.{IsField, taken, take-past, skip-whole, skipped}
-use Rattle.format.specs.Rules.{Earlier, clash, among}
-use Rattle.states.specs.Lookback.{collidesWith, packetsBefore, idIn, dirIn, longIn, hopped}
+use Rattle.format.specs.Rules.{Earlier, clash, among, collidesAmong}
+use Rattle.states.specs.Lookback.{packetsBefore, idIn, dirIn, longIn, hopped}
 
 -- whether a packet collides, where it is no ETCS-44
-pub told : (i d : ℕ) (l : List Earlier) (b : Bool) → (i ≡ 44 → ⊥) → among clash i d l ≡ b → b ≡ collidesWith i d l
+pub told : (i d : ℕ) (l : List Earlier) (b : Bool) → (i ≡ 44 → ⊥) → among clash i d l ≡ b → b ≡ collidesAmong clash i d l
 told i d l b n e = simp (ne-eqb i 44 n, e)
 
-pub none-told : (i d : ℕ) (l : List Earlier) → i ≡ 44 → false ≡ collidesWith i d l
+pub none-told : (i d : ℕ) (l : List Earlier) → i ≡ 44 → false ≡ collidesAmong clash i d l
 none-told i d l e = simp (eq-eqb i 44 e)
 
 -- among no packets

@@ -6,13 +6,13 @@ use Prim.Native.Nat.{ℕ}
 use lib.Dec.{eqb}
 use Rattle.bits.proofs.Once.{Once, equation-once}
 use Rattle.format.specs.Normal.{viewOf}
-use Rattle.format.specs.Rules.{Earlier, Context, spotOf, clash}
+use Rattle.format.specs.Rules.{Earlier, Context, spotOf, clash, collidesAmong}
 use Rattle.format.specs.Telegrams.{Entry}
 use Rattle.format.specs.declared.Kind.{Kind}
 use Rattle.states.specs.Machine.{Noted, senseOf, contextOf, levelOf, unread, slight}
 use Rattle.states.specs.Normaliser.{viewIs}
 use Rattle.states.specs.Reader.{sized}
-use Rattle.states.specs.Lookback.{collidesWith, packetsBefore}
+use Rattle.states.specs.Lookback.{packetsBefore}
 use Rattle.states.specs.declared.Level.{Level}
 use Rattle.states.specs.declared.Level.the-variants.{Header, Packet, User}
 use Rattle.states.specs.declared.State.{State}
@@ -23,8 +23,8 @@ use Rattle.format.specs.Rules as rules
 pub sized-once : (s : List ℕ) (n : ℕ) → Once (λ r. r ≡ sized s n)
 sized-once s n = equation-once (sized s n)
 
-pub collides-once : (s : List ℕ) (stop id dir : ℕ) → Once (λ r. r ≡ collidesWith id dir (packetsBefore s stop))
-collides-once s stop id dir = equation-once (collidesWith id dir (packetsBefore s stop))
+pub collides-once : (s : List ℕ) (stop id dir : ℕ) → Once (λ r. r ≡ collidesAmong clash id dir (packetsBefore s stop))
+collides-once s stop id dir = equation-once (collidesAmong clash id dir (packetsBefore s stop))
 
 pub meets-once : (name way id dir : ℕ) → Once (λ r. r ≡ (eqb id name && clash dir way))
 meets-once name way id dir = equation-once (eqb id name && clash dir way)

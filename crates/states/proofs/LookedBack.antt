@@ -19,7 +19,7 @@ use Rattle.bits.proofs.Digits.{length-digits, valueOf-append, valueOf-digits}
 use Rattle.bits.proofs.Fields.{take-whole, take-past}
 use Rattle.format.specs.Fields.{NID-PACKET}
 use Rattle.format.specs.Fields.Rule.{direction}
-use Rattle.format.specs.Rules.{Earlier, ruleOf, clash, among, collidesBy}
+use Rattle.format.specs.Rules.{Earlier, ruleOf, clash, among, collidesAmong, collidesBy}
 use Rattle.format.specs.Telegrams.{Entry, bits, bitsIn, bitCount}
 use Rattle.laws.proofs.Demand2.{length-bits}
 use Rattle.laws.proofs.Round.{all-append}
@@ -28,7 +28,7 @@ use Rattle.laws.proofs.Points.{holding}
 use Rattle.laws.proofs.Stages.{sends-directs}
 use Rattle.laws.proofs.Whole.{Whole, headed}
 use Rattle.laws.proofs.Whole.Whole.{front, then}
-use Rattle.states.specs.Lookback.{collidesWith, packetsBefore, idIn, dirIn, longIn, hopped, Twice}
+use Rattle.states.specs.Lookback.{packetsBefore, idIn, dirIn, longIn, hopped, Twice}
 use Rattle.states.specs.Machine.{contextOf, levelOf, ruleAt, Stepped}
 use Rattle.states.specs.declared.Level.the-variants.{Packet}
 use Rattle.states.specs.declared.Outcome.{Outcome}
@@ -152,7 +152,7 @@ module _ (s : List ℕ) (n : ℕ) (wide : n ≤ 8 * length s) where
 
 -- where a packet's Q_DIR is due, the hops find what the context has
 module _ {s : List ℕ} {n : ℕ} {rows : List ℕ} {st : State} {c : Cursor} {count : ℕ} (i : Scans s n rows st c count) where
-  pub looks-back : (v : ℕ) {r : Bool} → ruleAt (st .todo .node) ≡ direction → st .level ≡ Packet → r ≡ collidesWith (st .id) v (packetsBefore s (st .start))
+  pub looks-back : (v : ℕ) {r : Bool} → ruleAt (st .todo .node) ≡ direction → st .level ≡ Packet → r ≡ collidesAmong clash (st .id) v (packetsBefore s (st .start))
       → collidesBy clash (contextOf (i .drives .earlier) st) v ≡ r
   unfolding collidesBy
   looks-back v k l e =

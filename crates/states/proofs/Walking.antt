@@ -13,7 +13,7 @@ use Rattle.format.specs.Fields.{NID-PACKET, Q-DIR, L-PACKET}
 use Rattle.format.specs.Fields.Rule.{direction}
 use Rattle.format.specs.Packets.{Items}
 use Rattle.format.specs.Packets.Items.{end, nest, send, sendIf, sendEither, sendTimes}
-use Rattle.format.specs.Rules.{Earlier, next, ruleOf, clash, among, collidesBy}
+use Rattle.format.specs.Rules.{Earlier, next, ruleOf, clash, among, collidesAmong, collidesBy}
 use Rattle.format.specs.Table.{act, rowAt}
 use Rattle.format.specs.Telegrams.{Entry, values, valuesIn}
 use Rattle.laws.proofs.Points.{holding}
@@ -23,7 +23,7 @@ use Rattle.laws.proofs.Steps.{going}
 use Rattle.laws.proofs.Whole.{Goes, Whole, headed}
 use Rattle.laws.proofs.Whole.Goes.{here, further}
 use Rattle.laws.proofs.Whole.Whole.{front, then}
-use Rattle.states.specs.Lookback.{collidesWith, begins, withPacket, walked, packetsAmong, Twice}
+use Rattle.states.specs.Lookback.{begins, withPacket, walked, packetsAmong, Twice}
 use Rattle.states.specs.Machine.{contextOf, levelOf, ruleAt, todoOf, Tidy, Advanced, Stepped}
 use Rattle.states.specs.declared.Level.the-variants.{Packet}
 use Rattle.states.specs.declared.Outcome.{Outcome}
@@ -124,7 +124,7 @@ module _ {vs rows : List ℕ} {st : State} {i : ℕ} (m : Measures vs rows st i)
   before-is =
       ap (take i) (m .drives .front) ∙ take-at (values (m .drives .entries)) (drop i vs) i (sym (m .drives .counts))
 
-  pub walks-back : (v : ℕ) {r : Bool} → ruleAt (st .todo .node) ≡ direction → st .level ≡ Packet → r ≡ collidesWith (st .id) v (packetsAmong vs i)
+  pub walks-back : (v : ℕ) {r : Bool} → ruleAt (st .todo .node) ≡ direction → st .level ≡ Packet → r ≡ collidesAmong clash (st .id) v (packetsAmong vs i)
       → collidesBy clash (contextOf (m .drives .earlier) st) v ≡ r
   unfolding collidesBy valuesIn
   walks-back v k l e =

@@ -7,8 +7,9 @@ use mathlib.Core.Logic.{_⊎_}
 use Prim.Native.Nat.{ℕ, _+_, _/_, _%_, _≤_}
 use Rattle.bits.specs.Take.{takeAt}
 use Rattle.bits.specs.declared.Taken.the-variants.{Field}
+use Rattle.format.specs.Rules.{clash, collidesAmong}
 use Rattle.format.specs.Table.{act, fieldAt, codeOf, etcsRow, ctcsRow}
-use Rattle.states.specs.Lookback.{collidesWith, packetsBefore, idIn, dirIn, longIn}
+use Rattle.states.specs.Lookback.{packetsBefore, idIn, dirIn, longIn}
 use Rattle.states.specs.declared.Begun.{Begun}
 use Rattle.states.specs.declared.Begun.the-variants.{To, Not}
 use Rattle.states.specs.declared.Level.the-variants.{Packet, User}
@@ -81,7 +82,7 @@ pub record Opened (bytes : List ℕ) (n : ℕ) (s : State) (r : State) : Type 0 
   pub known : codeOf (fieldAt (etcsRow (idIn bits)) .sense) ≡ 9
   pub more : act (etcsRow (idIn bits) + 2) ≡ 0 → ⊥
   pub allowed : dirIn bits ≤ 2
-  pub alone : false ≡ collidesWith (idIn bits) (dirIn bits) (packetsBefore bytes (s .start))
+  pub alone : false ≡ collidesAmong clash (idIn bits) (dirIn bits) (packetsBefore bytes (s .start))
   pub state : r ≡ opened s bits
 
 abbrev pub Headed : List ℕ → ℕ → State → Begun → Type 0

@@ -1,11 +1,10 @@
 -- The packets that came before, as the code finds them: no list of them is kept, but what was read already is looked over again. Definitions
 -- alone.
-use mathlib.Core.Bool.{Bool, true, false, not, _&&_}
+use mathlib.Core.Bool.{Bool, true, false}
 use mathlib.Core.List.{List, [], _∷_}
 use mathlib.Core.Option.{Option, some, none}
 use mathlib.Core.Path.{_≡_}
 use Prim.Native.Nat.{ℕ, zero, suc, _+_, _-_, _/_, _%_}
-use lib.Dec.{eqb}
 use lib.ListN.{take, drop}
 use Rattle.bits.specs.Take.{takeAt}
 use Rattle.bits.specs.declared.Cursor.{Cursor}
@@ -14,14 +13,10 @@ use Rattle.bits.specs.declared.Taken.the-variants.{Field, Short}
 use Rattle.format.specs.Fields.Rule.{direction}
 use Rattle.format.specs.Packets.{Items}
 use Rattle.format.specs.Packets.Items.{end, nest, send, sendIf, sendEither, sendTimes}
-use Rattle.format.specs.Rules.{Earlier, clash, among, next}
+use Rattle.format.specs.Rules.{Earlier, clash, collidesAmong, next}
 use Rattle.states.specs.Machine.{ruleAt}
 use Rattle.states.specs.declared.Level.the-variants.{Packet}
 use Rattle.states.specs.declared.State.{State}
-
--- whether a packet with this NID_PACKET and Q_DIR collides with one of these; ETCS-44 collides with none
-abbrev pub collidesWith : ℕ → ℕ → List Earlier → Bool
-collidesWith id dir before = not (eqb id 44) && among clash id dir before
 
 -- ---- over bits: from packet to packet
 
@@ -82,4 +77,4 @@ packetsAmong vs n = walked (drop 10 (take n vs)) (some end)
 
 -- where it is the Q_DIR of a packet, whether its packet collides with one of these; elsewhere nothing asks
 abbrev pub Twice : State → ℕ → List Earlier → Bool → Type 0
-Twice s v before r = ruleAt (s .todo .node) ≡ direction → s .level ≡ Packet → r ≡ collidesWith (s .id) v before
+Twice s v before r = ruleAt (s .todo .node) ≡ direction → s .level ≡ Packet → r ≡ collidesAmong clash (s .id) v before

@@ -3,8 +3,8 @@ ghost use mathlib.Core.Path.{_≡_};
 ghost use mathlib.Core.Bool.{_&&_};
 ghost use Prim.Native.Nat.{_-_};
 ghost use lib.Dec.{eqb};
-ghost use Rattle.format.specs.Rules.{clash};
-ghost use Rattle.states.specs.Lookback.{collidesWith, packetsBefore};
+ghost use Rattle.format.specs.Rules.{clash, collidesAmong};
+ghost use Rattle.states.specs.Lookback.{packetsBefore};
 use bits::Cursor;
 use bits::Skipped;
 use bits::Taken;
@@ -17,7 +17,7 @@ const HEADER: usize = 50;
 // Whether a packet with this NID_PACKET and Q_DIR collides with one of those that stand behind the header and before the bit stop. It goes from
 // packet to packet by their L_PACKET.
 pub fn collides_in_bits(s: &[u8], stop: usize, id: u64, dir: u64) -> bool
-    ensures { λ r. ⌜ r ≡ collidesWith id dir (packetsBefore (now (s .entry)) stop) ⌝ }
+    ensures { λ r. ⌜ r ≡ collidesAmong clash id dir (packetsBefore (now (s .entry)) stop) ⌝ }
 {
     if id == 44 {
         return false;

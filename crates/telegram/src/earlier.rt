@@ -4,9 +4,9 @@ ghost use mathlib.Core.Bool.{_&&_};
 ghost use Prim.Native.Nat.{_≤_};
 ghost use lib.Dec.{eqb};
 ghost use lib.ListN.{length};
-ghost use Rattle.format.specs.Rules.{clash};
+ghost use Rattle.format.specs.Rules.{clash, collidesAmong};
 ghost use Rattle.format.specs.Table.{words};
-ghost use Rattle.states.specs.Lookback.{collidesWith, packetsBefore, packetsAmong, begins, Twice};
+ghost use Rattle.states.specs.Lookback.{packetsBefore, packetsAmong, begins, Twice};
 ghost use Rattle.states.specs.Machine.{InTable, Tidy, Directing, todoOf};
 use crate::rows::act;
 use crate::rows::code;
@@ -73,7 +73,7 @@ fn directing(rows: &[u32; 213], s: State) -> bool
 // on: an L_PACKET counts bits, and does not say how many values its packet has.
 fn collides_in_values(rows: &[u32; 213], values: &[u64], n: usize, id: u64, dir: u64) -> bool
     requires { ⌜ (now rows ≡ words) × (n ≤ length (now values)) ⌝ }
-    ensures { λ r. ⌜ r ≡ collidesWith id dir (packetsAmong (now (values .entry)) n) ⌝ }
+    ensures { λ r. ⌜ r ≡ collidesAmong clash id dir (packetsAmong (now (values .entry)) n) ⌝ }
 {
     if id == 44 {
         return false;
