@@ -8,3 +8,4 @@ pub mod Writer
 pub mod Labels
 pub mod Along
 pub mod Normaliser
+pub mod Examples
