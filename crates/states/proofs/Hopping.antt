@@ -1,6 +1,6 @@
 -- Looking back over bits: one hop, and where the hops end. Assumes nothing.
 use mathlib.Core.Bool.{Bool, true, false, not, _&&_, _||_, or-true}
-use mathlib.Core.List.{List, [], _∷_}
+use mathlib.Core.List.{List, [], _∷_, _++_, reverse, reverse-cons}
 use mathlib.Core.Path.{_≡_, refl, sym, ap, _∙_}
 use Prim.Native.Nat.{ℕ, zero, suc, _+_, _-_, _≤_, _<_}
 use native.Mathlib.Decide.{decLe}
@@ -34,6 +34,35 @@ pub among-more : (collide : ℕ → ℕ → Bool) (i d : ℕ) (e : Earlier) (l :
     → among collide i d (e ∷ l) ≡ (eqb i (e .id) && collide d (e .dir) || among collide i d l)
 unfolding among
 among-more collide i d e l = refl
+
+-- among packets, and then others
+among-append : (collide : ℕ → ℕ → Bool) (i d : ℕ) (l m : List Earlier)
+    → among collide i d (l ++ m) ≡ (among collide i d l || among collide i d m)
+unfolding among
+among-append collide i d [] m = refl
+among-append collide i d (e ∷ l) m =
+    ap (λ (x : Bool). eqb i (e .id) && collide d (e .dir) || x) (among-append collide i d l m)
+    ∙ joined (eqb i (e .id) && collide d (e .dir)) (among collide i d l) (among collide i d m)
+  where
+    joined : (a b c : Bool) → (a || (b || c)) ≡ ((a || b) || c)
+    joined true b c = refl
+    joined false b c = refl
+
+-- in the other order
+pub among-reverse : (collide : ℕ → ℕ → Bool) (i d : ℕ) (l : List Earlier) → among collide i d (reverse l) ≡ among collide i d l
+unfolding among
+among-reverse collide i d [] = refl
+among-reverse collide i d (e ∷ l) =
+    ap (among collide i d) (reverse-cons e l)
+    ∙ among-append collide i d (reverse l) (e ∷ [])
+    ∙ ap (λ (x : Bool). x || among collide i d (e ∷ [])) (among-reverse collide i d l)
+    ∙ swapped (among collide i d l) (eqb i (e .id) && collide d (e .dir))
+  where
+    swapped : (a b : Bool) → (a || (b || false)) ≡ (b || a)
+    swapped true true = refl
+    swapped true false = refl
+    swapped false true = refl
+    swapped false false = refl
 
 -- ---- one hop
 

@@ -1,8 +1,7 @@
 -- Looking back finds just the packets that were sent, over bits and over values: both go by the packets that stand whole among the entries
 -- (`Whole` of the crate laws). Assumes nothing.
-use mathlib.Core.Bool.{Bool, true, false, not, _&&_, _||_, or-false}
-use mathlib.Core.List.{List, [], _∷_, _++_, append-assoc, append-nil}
-use mathlib.Core.Option.{some}
+use mathlib.Core.Bool.{Bool, not, _&&_}
+use mathlib.Core.List.{List, [], _∷_, _++_, append-assoc, append-nil, reverse, reverse-cons}
 use mathlib.Core.Path.{_≡_, refl, sym, ap, _∙_, subst}
 use Prim.Native.Nat.{ℕ, zero, suc, _+_, _*_, _-_, _^_, _≤_, _<_}
 use native.Mathlib.Nat.{add-zero}
@@ -34,17 +33,10 @@ use Rattle.states.specs.declared.Level.the-variants.{Packet}
 use Rattle.states.specs.declared.Outcome.{Outcome}
 use Rattle.states.specs.declared.State.{State}
 use Rattle.states.proofs.Directions.{Passed, passes}
-use Rattle.states.proofs.Hopping.{among-none, among-more, hopped-head, hopped-short}
+use Rattle.states.proofs.Hopping.{among-reverse, hopped-head, hopped-short}
 use Rattle.states.proofs.Scanning.{Scans, telegramBits, inside-take, field-is}
 use Rattle.format.specs.Fields as fields
 use Rattle.laws.proofs.Whole as whole
-
--- a packet more, before those behind
-pub swapped : (a b c : Bool) → (a || (b || c)) ≡ ((b || a) || c)
-swapped true true c = refl
-swapped true false c = refl
-swapped false true c = refl
-swapped false false c = refl
 
 -- ---- over bits
 
@@ -102,20 +94,18 @@ module _ (s : List ℕ) (n : ℕ) (wide : n ≤ 8 * length s) where
         take-whole s stop 23 (bitCount b) (omega arith) h (omega arith)
         ∙ ap (λ (a : ℕ). Field a (record { at = bitCount b + 23 })) head-value
 
-  -- from the header's end the hops come to where whole packets end, past each of them once
-  module _ (collide : ℕ → ℕ → Bool) (id dir stop : ℕ) (within : stop ≤ n) where
-    abbrev Hits : List Earlier → Bool
-    Hits l = among collide id dir l
-
+  -- from the header's end the hops come to where whole packets end, past each of them once, in order of sending
+  module _ (stop : ℕ) (within : stop ≤ n) where
     -- one hop
     hop : (k at a next : ℕ) {i d : ℕ} → takeAt s stop 23 at ≡ Field a (record { at = at + 23 }) → idIn a ≡ i → dirIn a ≡ d → at + 23 + (longIn a - 23) ≡ next
-        → Hits (hopped (suc k) s stop at) ≡ (eqb id i && collide dir d || Hits (hopped k s stop next))
-    hop k at a next e ei ed en = rw (hopped-head k s stop at a (record { at = at + 23 }) e, among-more, ei, ed, en)
+        → hopped (suc k) s stop at ≡ record { id = i; dir = d } ∷ hopped k s stop next
+    hop k at a next e ei ed en = hopped-head k s stop at a (record { at = at + 23 }) e ∙ rw (ei, ed, en)
 
     whole-hops : {b : List Entry} {l : List Earlier} → Whole b l → (ys : List ℕ) → telegramBits s n ≡ bits b ++ ys → bitCount b ≤ stop → (k : ℕ)
-        → Hits (hopped (k + length l) s stop 50) ≡ (Hits l || Hits (hopped k s stop (bitCount b)))
-    whole-hops (front {es = es} e c) ys f h k = rw (among-none collide id dir, e, add-zero k)
+        → hopped (k + length l) s stop 50 ≡ reverse l ++ hopped k s stop (bitCount b)
+    whole-hops (front {es = es} e c) ys f h k = rw (e, add-zero k)
     whole-hops (then {es = b} {l = l} {i = i} {d = d} {n = m} {body = body} w p) ys f h k =
+        let packet : Earlier = record { id = i; dir = d } in
         let sum : bitCount (b ++ headed i d m body) ≡ bitCount b + bitCount (headed i d m body) = bitCount-append b (headed i d m body) in
         let start = head-taken b p ys f stop (omega (arith, p .size)) within in
         let ih = whole-hops w (bits (headed i d m body) ++ ys) (f ∙ ap (λ (x : List ℕ). x ++ ys) (all-append bitsIn b (headed i d m body)) ∙ append-assoc (bits b) _ ys) (omega arith) (suc k) in
@@ -124,11 +114,11 @@ module _ (s : List ℕ) (n : ℕ) (wide : n ≤ 8 * length s) where
         let ed : dirIn a ≡ d = omega (arith, p .small-dir, p .small-size) in
         let en : bitCount b + 23 + (longIn a - 23) ≡ bitCount (b ++ headed i d m body) = omega (arith, p .small-size, p .size) in
         let more : k + suc (length l) ≡ suc k + length l = omega arith in
-        ap (λ (x : ℕ). Hits (hopped x s stop 50)) more
+        ap (λ (x : ℕ). hopped x s stop 50) more
         ∙ ih
-        ∙ ap (λ (x : Bool). Hits l || x) (hop k (bitCount b) a _ start ei ed en)
-        ∙ swapped (Hits l) (eqb id i && collide dir d) _
-        ∙ ap (λ (x : Bool). x || Hits (hopped k s stop (bitCount (b ++ headed i d m body)))) (sym (among-more collide id dir (record { id = i; dir = d }) l))
+        ∙ ap (λ (x : List Earlier). reverse l ++ x) (hop k (bitCount b) a _ start ei ed en)
+        ∙ sym (append-assoc (reverse l) (packet ∷ []) (hopped k s stop (bitCount (b ++ headed i d m body))))
+        ∙ ap (λ (x : List Earlier). x ++ hopped k s stop (bitCount (b ++ headed i d m body))) (sym (reverse-cons packet l))
 
   -- there are no more packets than bits
   whole-few : {b : List Entry} {l : List Earlier} → Whole b l → length l ≤ bitCount b
@@ -138,17 +128,15 @@ module _ (s : List ℕ) (n : ℕ) (wide : n ≤ 8 * length s) where
       let sum : bitCount (b ++ headed i d m body) ≡ bitCount b + bitCount (headed i d m body) = bitCount-append b (headed i d m body) in
       omega arith
 
-  -- so looking back from there finds just them
-  whole-before : (collide : ℕ → ℕ → Bool) (id dir : ℕ) {b : List Entry} {l : List Earlier} → Whole b l → (ys : List ℕ) → telegramBits s n ≡ bits b ++ ys
-      → bitCount b ≤ n → among collide id dir (packetsBefore s (bitCount b)) ≡ among collide id dir l
-  whole-before collide id dir {b} {l} w ys f h =
+  -- so looking back from there finds just them, in order of sending
+  pub whole-before : {b : List Entry} {l : List Earlier} → Whole b l → (ys : List ℕ) → telegramBits s n ≡ bits b ++ ys → bitCount b ≤ n
+      → packetsBefore s (bitCount b) ≡ reverse l
+  whole-before {b} {l} w ys f h =
       let k = bitCount b - length l in
       let few = whole-few w in
       let fuel : bitCount b ≡ k + length l = omega arith in
       let none = hopped-short k s (bitCount b) (bitCount b) (take-past s (bitCount b) 23 (bitCount b) (omega arith) (omega arith)) in
-      ap (λ (x : ℕ). among collide id dir (hopped x s (bitCount b) 50)) fuel
-      ∙ whole-hops collide id dir (bitCount b) h w ys f (omega arith) k
-      ∙ rw (none, among-none collide id dir, or-false)
+      ap (λ (x : ℕ). hopped x s (bitCount b) 50) fuel ∙ whole-hops (bitCount b) h w ys f (omega arith) k ∙ rw none (append-nil (reverse l))
 
 -- where a packet's Q_DIR is due, the hops find what the context has
 module _ {s : List ℕ} {n : ℕ} {rows : List ℕ} {st : State} {c : Cursor} {count : ℕ} (i : Scans s n rows st c count) where
@@ -166,7 +154,10 @@ module _ {s : List ℕ} {n : ℕ} {rows : List ℕ} {st : State} {c : Cursor} {c
       ∙ append-assoc (bits b) (bits (mark ∷ [])) (drop (st .at) (telegramBits s n)) in
       let low : bitCount b ≤ n = omega (arith, i .drives .sound .first, i .within, q .start) in
       ap (λ (x : Bool). not (eqb (st .id) 44) && x)
-      (sym (ap (λ (x : ℕ). among clash (st .id) v (packetsBefore s x)) (q .start) ∙ whole-before s n (i .wide) clash (st .id) v (q .whole) _ fs low))
+      (sym
+      (ap (λ (x : ℕ). among clash (st .id) v (packetsBefore s x)) (q .start)
+      ∙ ap (among clash (st .id) v) (whole-before s n (i .wide) (q .whole) _ fs low)
+      ∙ among-reverse clash (st .id) v (i .drives .earlier)))
       ∙ sym e
 
   -- so a step that is told whether they collide is the definition's

@@ -1,6 +1,6 @@
 -- Looking back over values: one value more, and what whole packets among them make. Assumes nothing.
-use mathlib.Core.Bool.{Bool, true, false, not, _&&_, _||_, or-false}
-use mathlib.Core.List.{List, [], _∷_, _++_, append-assoc}
+use mathlib.Core.Bool.{Bool, true, false, not, _&&_, _||_}
+use mathlib.Core.List.{List, [], _∷_, _++_, append-assoc, append-nil, reverse, reverse-cons}
 use mathlib.Core.Option.{Option, some, none}
 use mathlib.Core.Path.{_≡_, refl, sym, ap, _∙_}
 use Prim.Native.Nat.{ℕ, zero, suc, _+_, _-_, _≤_, _<_}
@@ -32,8 +32,7 @@ use Rattle.states.specs.declared.Todo.{Todo}
 use Rattle.states.specs.declared.Ahead.{Ahead}
 use Rattle.states.specs.declared.Ahead.the-variants.{On, Mark}
 use Rattle.states.proofs.Directions.{Passed, passes}
-use Rattle.states.proofs.Hopping.{among-none, among-more}
-use Rattle.states.proofs.LookedBack.{swapped}
+use Rattle.states.proofs.Hopping.{among-none, among-more, among-reverse}
 use Rattle.states.proofs.Measuring.{Measures, field-is}
 use Rattle.states.proofs.Moves.{none-left, todo-begins, todo-begins-not}
 use Rattle.format.specs.Fields as fields
@@ -87,35 +86,31 @@ goes-walked {t} (further {es = es} {u = u} {w = w} v g h j) rest =
     ∙ walked-one v rest u
     ∙ rw (not-begins u h, j)
 
-module _ (collide : ℕ → ℕ → Bool) (id dir : ℕ) where
-  abbrev Hits : List Earlier → Bool
-  Hits l = among collide id dir l
+-- a packet is gone over, and it is one
+one-packet : (i d m : ℕ) (body : List Entry) (rest : List ℕ) (t : Items) → next end i ≡ some t → Goes t (holding Q-DIR d ∷ holding L-PACKET m ∷ body) end
+    → walked (values (headed i d m body) ++ rest) (some end) ≡ record { id = i; dir = d } ∷ walked rest (some end)
+unfolding valuesIn
+one-packet i d m body rest t e g =
+    walked-one i (d ∷ m ∷ values body ++ rest) end
+    ∙ ap (λ (x : List Earlier). record { id = i; dir = d } ∷ x) (ap (walked (d ∷ m ∷ values body ++ rest)) e ∙ goes-walked g rest)
 
-  -- a packet is gone over, and it is one
-  one-packet : (i d m : ℕ) (body : List Entry) (rest : List ℕ) (t : Items) → next end i ≡ some t → Goes t (holding Q-DIR d ∷ holding L-PACKET m ∷ body) end
-      → Hits (walked (values (headed i d m body) ++ rest) (some end)) ≡ (eqb id i && collide dir d || Hits (walked rest (some end)))
-  unfolding valuesIn
-  one-packet i d m body rest t e g =
-      ap Hits (walked-one i (d ∷ m ∷ values body ++ rest) end)
-      ∙ among-more collide id dir (record { id = i; dir = d }) (walked (d ∷ m ∷ values body ++ rest) (next end i))
-      ∙ ap (λ (x : Bool). eqb id i && collide dir d || x) (ap (λ o. Hits (walked (d ∷ m ∷ values body ++ rest) o)) e ∙ ap Hits (goes-walked g rest))
+-- from the header's end the walk comes to where whole packets end, past each of them once, in order of sending
+whole-walks : {b : List Entry} {l : List Earlier} → Whole b l → (rest : List ℕ)
+    → walked (drop 10 (values b ++ rest)) (some end) ≡ reverse l ++ walked rest (some end)
+whole-walks (front {es = es} e c) rest = rw (drop-at (values es) rest 10 c)
+whole-walks (then {es = b} {l = l} {i = i} {d = d} {n = m} {body = body} w p) rest =
+    let packet : Earlier = record { id = i; dir = d } in
+    let fs : values (b ++ headed i d m body) ++ rest ≡ values b ++ (values (headed i d m body) ++ rest) =
+    ap (λ (x : List ℕ). x ++ rest) (all-append valuesIn b (headed i d m body)) ∙ append-assoc (values b) (values (headed i d m body)) rest in
+    ap (λ (x : List ℕ). walked (drop 10 x) (some end)) fs
+    ∙ whole-walks w (values (headed i d m body) ++ rest)
+    ∙ ap (λ (x : List Earlier). reverse l ++ x) (one-packet i d m body rest (p .began .items) (p .began .found) (p .goes))
+    ∙ sym (append-assoc (reverse l) (packet ∷ []) (walked rest (some end)))
+    ∙ ap (λ (x : List Earlier). x ++ walked rest (some end)) (sym (reverse-cons packet l))
 
-  -- from the header's end the walk comes to where whole packets end, past each of them once
-  whole-walks : {b : List Entry} {l : List Earlier} → Whole b l → (rest : List ℕ)
-      → Hits (walked (drop 10 (values b ++ rest)) (some end)) ≡ (Hits l || Hits (walked rest (some end)))
-  whole-walks (front {es = es} e c) rest = rw (among-none collide id dir, drop-at (values es) rest 10 c)
-  whole-walks (then {es = b} {l = l} {i = i} {d = d} {n = m} {body = body} w p) rest =
-      let fs : values (b ++ headed i d m body) ++ rest ≡ values b ++ (values (headed i d m body) ++ rest) =
-      ap (λ (x : List ℕ). x ++ rest) (all-append valuesIn b (headed i d m body)) ∙ append-assoc (values b) (values (headed i d m body)) rest in
-      ap (λ (x : List ℕ). Hits (walked (drop 10 x) (some end))) fs
-      ∙ whole-walks w (values (headed i d m body) ++ rest)
-      ∙ ap (λ (x : Bool). Hits l || x) (one-packet i d m body rest (p .began .items) (p .began .found) (p .goes))
-      ∙ swapped (Hits l) (eqb id i && collide dir d) (Hits (walked rest (some end)))
-      ∙ ap (λ (x : Bool). x || Hits (walked rest (some end))) (sym (among-more collide id dir (record { id = i; dir = d }) l))
-
-  -- so looking back from there, or from behind one NID_PACKET more, finds just them
-  whole-among : {b : List Entry} {l : List Earlier} → Whole b l → (v : ℕ) → Hits (walked (drop 10 (values b ++ (v ∷ []))) (some end)) ≡ Hits l
-  whole-among w v = whole-walks w (v ∷ []) ∙ rw (walked-short (v ∷ []) (some end) (omega arith), among-none collide id dir, or-false)
+-- so looking back from behind one NID_PACKET more finds just them
+pub whole-among : {b : List Entry} {l : List Earlier} → Whole b l → (v : ℕ) → walked (drop 10 (values b ++ (v ∷ []))) (some end) ≡ reverse l
+whole-among {l = l} w v = whole-walks w (v ∷ []) ∙ rw (walked-short (v ∷ []) (some end) (omega arith)) (append-nil (reverse l))
 
 -- where a packet's Q_DIR is due, the walk finds what the context has
 module _ {vs rows : List ℕ} {st : State} {i : ℕ} (m : Measures vs rows st i) where
@@ -132,7 +127,10 @@ module _ {vs rows : List ℕ} {st : State} {i : ℕ} (m : Measures vs rows st i)
       let fs : take i vs ≡ values (q .before) ++ (q .name ∷ []) =
       before-is ∙ ap values (q .ends) ∙ all-append valuesIn (q .before) (holding NID-PACKET (q .name) ∷ []) in
       ap (λ (x : Bool). not (eqb (st .id) 44) && x)
-      (sym (ap (λ (x : List ℕ). among clash (st .id) v (walked (drop 10 x) (some end))) fs ∙ whole-among clash (st .id) v (q .whole) (q .name)))
+      (sym
+      (ap (λ (x : List ℕ). among clash (st .id) v (walked (drop 10 x) (some end))) fs
+      ∙ ap (among clash (st .id) v) (whole-among (q .whole) (q .name))
+      ∙ among-reverse clash (st .id) v (m .drives .earlier)))
       ∙ sym e
 
   -- so a step that is told whether they collide is the definition's
