@@ -104,7 +104,8 @@ pub(crate) fn drift(rows: &[u32; 213], n: usize, told: bool, from: Todo, start: 
     }
 }
 
-// What is to be sent after a value that keeps its rule and of which nothing is kept, if one turn finds a field or the packet's end.
+// What is to be sent after a value that keeps its rule and of which nothing is kept, if one turn finds a field or the packet's end. Where the
+// field steers nothing and another follows it, as most do, there is no turn to look for.
 pub(crate) fn ease(rows: &[u32; 213], t: Todo, v: u64) -> Easy
     requires { ⌜ (now rows ≡ words) × Tidy t ⌝ }
     ensures { λ r. ⌜ Eased t v r ⌝ }
@@ -113,8 +114,18 @@ pub(crate) fn ease(rows: &[u32; 213], t: Todo, v: u64) -> Easy
     if !slight(code(rows, k), low(rows, k), high(rows, k), v) {
         return Easy::Not;
     }
-    if act(rows, k) < SEND {
+    let a = act(rows, k);
+    if a < SEND {
         return Easy::Not;
+    }
+    if a == SEND {
+        if act(rows, k + 1) != END {
+            return Easy::To(Todo {
+                node: k + 1,
+                left: t.left,
+                outer: t.outer,
+            });
+        }
     }
     let u = turned(rows, moved(rows, t, v));
     if act(rows, u.node) != END {
