@@ -7,10 +7,9 @@ use crate::earlier::note;
 use crate::earlier::repeated;
 use crate::machine::step;
 use crate::rows::act;
+use crate::rows::back;
 use crate::rows::code;
-use crate::rows::high;
-use crate::rows::jump;
-use crate::rows::low;
+use crate::rows::rest;
 use crate::rows::width;
 use crate::todo::moved;
 use crate::todo::turned;
@@ -29,7 +28,7 @@ use states::slight;
 use states::unread;
 
 // The field that is due holds v, after the packets of the first n of seen.
-pub(crate) fn turn(rows: &[u32; 213], seen: &[u16], n: usize, s: State, v: u64) -> Outcome
+pub(crate) fn turn(rows: &[u16; 213], seen: &[u16], n: usize, s: State, v: u64) -> Outcome
     requires { ⌜ Turning (now rows) (now seen) n s v ⌝ }
     ensures { λ r. ⌜ Passed (now (seen .entry)) n s v r ⌝ }
 {
@@ -38,7 +37,7 @@ pub(crate) fn turn(rows: &[u32; 213], seen: &[u16], n: usize, s: State, v: u64) 
 }
 
 // Keeps the packet whose Q_DIR v is, if it is one, and answers how many are then kept.
-pub(crate) fn keep(rows: &[u32; 213], seen: &mut [u16], n: usize, s: State, v: u64) -> usize
+pub(crate) fn keep(rows: &[u16; 213], seen: &mut [u16], n: usize, s: State, v: u64) -> usize
     requires { ⌜ Turning (now rows) (now seen) n s v ⌝ }
     ensures { λ r. ⌜ Noticed (now (seen .entry)) n s v r (now (seen .exit)) ⌝ }
 {
@@ -46,7 +45,7 @@ pub(crate) fn keep(rows: &[u32; 213], seen: &mut [u16], n: usize, s: State, v: u
 }
 
 // Whether the field that is due is the Q_DIR of a packet, by which packets collide.
-fn directing(rows: &[u32; 213], s: State) -> bool
+fn directing(rows: &[u16; 213], s: State) -> bool
     requires { ⌜ InTable (now rows) (s .todo .node) ⌝ }
     ensures { λ r. ⌜ Directing s r ⌝ }
 {
@@ -65,7 +64,7 @@ fn directing(rows: &[u32; 213], s: State) -> bool
 
 // Goes past fields unread, through the cursor, up to one that has to be read, that is the last of its packet or of its list, or that would end
 // past bit n. What follows a field is told apart here in place, so that the processor can guess it.
-pub(crate) fn drift(rows: &[u32; 213], n: usize, told: bool, from: Todo, start: Cursor) -> Reach
+pub(crate) fn drift(rows: &[u16; 213], n: usize, told: bool, from: Todo, start: Cursor) -> Reach
     requires { ⌜ (now rows ≡ words) × Tidy from ⌝ }
     ensures { λ r. ⌜ Drifted n told from (start .at) (r .todo) (r .cursor .at) (r .fields) ⌝ }
 {
@@ -74,7 +73,7 @@ pub(crate) fn drift(rows: &[u32; 213], n: usize, told: bool, from: Todo, start: 
     let mut fields: usize = 0;
     loop {
         let k = t.node;
-        if !unread(act(rows, k), code(rows, k), told) {
+        if !unread(act(rows, k), rest(rows, k), told) {
             break;
         }
         let Skipped::To(next) = c.skip(n, width(rows, k)) else {
@@ -86,13 +85,14 @@ pub(crate) fn drift(rows: &[u32; 213], n: usize, told: bool, from: Todo, start: 
             fields += 1;
             continue;
         }
-        if jump(rows, k + 1) == 0 {
+        let u = back(rows, k + 1);
+        if u == 0 {
             break;
         }
         if t.left == 0 {
             break;
         }
-        t.node = jump(rows, k + 1) + 1;
+        t.node = u + 1;
         t.left -= 1;
         c = next;
         fields += 1;
@@ -106,12 +106,12 @@ pub(crate) fn drift(rows: &[u32; 213], n: usize, told: bool, from: Todo, start: 
 
 // What is to be sent after a value that keeps its rule and of which nothing is kept, if one turn finds a field or the packet's end. Where the
 // field steers nothing and another follows it, as most do, there is no turn to look for.
-pub(crate) fn ease(rows: &[u32; 213], t: Todo, v: u64) -> Easy
+pub(crate) fn ease(rows: &[u16; 213], t: Todo, v: u64) -> Easy
     requires { ⌜ (now rows ≡ words) × Tidy t ⌝ }
     ensures { λ r. ⌜ Eased t v r ⌝ }
 {
     let k = t.node;
-    if !slight(code(rows, k), low(rows, k), high(rows, k), v) {
+    if !slight(rest(rows, k), v) {
         return Easy::Not;
     }
     let a = act(rows, k);
@@ -131,7 +131,7 @@ pub(crate) fn ease(rows: &[u32; 213], t: Todo, v: u64) -> Easy
     if act(rows, u.node) != END {
         return Easy::To(u);
     }
-    if jump(rows, u.node) == 0 {
+    if back(rows, u.node) == 0 {
         return Easy::Ends(u);
     }
     Easy::Not

@@ -61,7 +61,7 @@ pub(crate) fn header(s: &[u8], n: usize) -> Begun
 
 // The head that is due, if one is: of a packet, after the packets of the first met of seen, or of the CTCS packet inside one.
 pub(crate) fn leading(
-    rows: &[u32; 213],
+    rows: &[u16; 213],
     s: &[u8],
     n: usize,
     seen: &[u16],
@@ -83,7 +83,7 @@ pub(crate) fn leading(
 
 // The head of the packet that begins here, after the packets of the first met of seen, if it keeps every rule and a field follows it. Row 0,
 // which stands for no packet, has no Q_DIR.
-fn head(rows: &[u32; 213], s: &[u8], n: usize, seen: &[u16], met: usize, st: State) -> Begun
+fn head(rows: &[u16; 213], s: &[u8], n: usize, seen: &[u16], met: usize, st: State) -> Begun
     requires { ⌜ now rows ≡ words ⌝ }
     ensures { λ r. ⌜ Headed (now (s .entry)) n (now (seen .entry)) met st r ⌝ }
 {
@@ -127,7 +127,7 @@ fn head(rows: &[u32; 213], s: &[u8], n: usize, seen: &[u16], met: usize, st: Sta
 }
 
 // The head of the CTCS packet that begins here, if it keeps every rule, its Q_DIR is that of the packet around it, and a field follows it.
-fn inner(rows: &[u32; 213], s: &[u8], n: usize, st: State) -> Begun
+fn inner(rows: &[u16; 213], s: &[u8], n: usize, st: State) -> Begun
     requires { ⌜ now rows ≡ words ⌝ }
     ensures { λ r. ⌜ Inward (now (s .entry)) n st r ⌝ }
 {

@@ -98,7 +98,7 @@ fn scan(s: &[u8], n: usize) -> Answer
 // rule reads are gone past, and every other is taken. Every packet whose Q_DIR was taken is in seen: its Q_DIR has two bits of the 830, so that
 // there are not more than 415.
 fn walk(
-    rows: &[u32; 213],
+    rows: &[u16; 213],
     s: &[u8],
     n: usize,
     seen: &mut [u16; 416],
