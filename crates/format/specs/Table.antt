@@ -2,8 +2,8 @@
 -- to be believed: proofs/Rows.antt has the checker compute that they say what the items say. Definitions alone.
 use mathlib.Core.Bool.{cond}
 use mathlib.Core.List.{List, [], _∷_, _++_, map}
-use Prim.Native.Nat.{ℕ, zero, suc, _+_, _-_, _*_, _^_}
-use lib.Dec.{eqb}
+use Prim.Native.Nat.{ℕ, zero, suc, _+_, _-_, _*_, _%_, _^_}
+use lib.Dec.{eqb, ltb}
 use lib.ListN.{length, getD}
 use Rattle.format.specs.Fields.{Field, Rule, Sense, Switch, steers, NID-PACKET, NID-XUSER}
 use Rattle.format.specs.Fields.Rule.{any, packet, user, direction, size, pig, total, radio, within}
@@ -178,15 +178,67 @@ lowOf f = lowIn (ruleOf (f .sense))
 abbrev pub highOf : Field → ℕ
 highOf f = highIn (ruleOf (f .sense))
 
--- from the lowest bit: 3 of the act, 7 of the width, 4 of the code, 5 of the range's low end, 5 of its high end, 8 of the jump
-abbrev pub word : Row → ℕ
-word r =
-    r .act + r .field .width * 2 ^ 3 + codeOf (r .field .sense) * 2 ^ 10 + lowOf (r .field) * 2 ^ 14 + highOf (r .field) * 2 ^ 19
-    + r .jump * 2 ^ 24
+-- the number of a sense: of a field that is free its code; of a range 16 and its high end if it begins at 0, 48 and its high end if it begins
+-- at 1, and 62 else; of the scale 32 and its high end; of any other 52 and its code
+abbrev rangeNumber : ℕ → ℕ → ℕ
+rangeNumber zero b = 16 + b
+rangeNumber (suc zero) b = 48 + b
+rangeNumber (suc (suc a)) b = 62
+
+abbrev pub ruleNumber : Sense → ℕ
+ruleNumber (plain any) = 0
+ruleNumber (plain size) = 55
+ruleNumber (plain pig) = 56
+ruleNumber (plain total) = 57
+ruleNumber (plain radio) = 58
+ruleNumber (plain packet) = 59
+ruleNumber (plain user) = 60
+ruleNumber (plain direction) = 61
+ruleNumber (plain (within a b)) = rangeNumber a b
+ruleNumber scale = 34
+ruleNumber distance = 1
+ruleNumber textLength = 2
+
+-- what the number of row k says beside its act and its field's width. At a group's end and at the field that repeats it: how many rows lie
+-- from that field to that end; at a field that chooses, how many it may jump. At a packet's end 0. Else the number of the field's sense; the
+-- field that is left out unless its switch is 1 is one row, so that its jump needs no number
+abbrev restBy : ℕ → ℕ → ℕ → ℕ → ℕ
+restBy zero k j n = cond (eqb j 0) 0 (suc k - j)
+restBy (suc zero) k j n = n
+restBy (suc (suc zero)) k j n = n
+restBy (suc (suc (suc zero))) k j n = n
+restBy (suc (suc (suc (suc a)))) k j n = j - k
+
+abbrev pub restOf : ℕ → Row → ℕ
+restOf k r = restBy (r .act) k (r .jump) (ruleNumber (r .field .sense))
+
+abbrev pub rest : ℕ → ℕ
+rest k = restOf k (rowAt k)
+
+-- from the lowest bit: 3 of the act, 7 of the width, 6 of the rest
+abbrev word : ℕ → Row → ℕ
+word k r = r .act + r .field .width * 2 ^ 3 + restOf k r * 2 ^ 10
+
+unfoldable wordsFrom : ℕ → List Row → List ℕ
+wordsFrom k [] = []
+wordsFrom k (r ∷ rs) = word k r ∷ wordsFrom (suc k) rs
 
 unfoldable pub words : List ℕ
-unfolding rows
-words = map word rows
+unfolding rows wordsFrom
+words = wordsFrom 0 rows
+
+-- the code of a row's field, and the ends of its range, by the row's act and rest
+abbrev pub freeBy : ℕ → ℕ → ℕ
+freeBy a r = cond (eqb a 0) 7 (cond (eqb a 2) r 0)
+
+abbrev pub codeBy : ℕ → ℕ → ℕ
+codeBy a r = cond (ltb r 10) (freeBy a r) (cond (ltb r 32) 10 (cond (ltb r 48) 11 (cond (ltb r 52) 10 (r - 52))))
+
+abbrev pub lowBy : ℕ → ℕ
+lowBy r = cond (ltb r 48) 0 (cond (ltb r 52) 1 (cond (eqb r 62) 16 0))
+
+abbrev pub highBy : ℕ → ℕ
+highBy r = cond (ltb r 10) 0 (cond (ltb r 52) (r % 16) (cond (eqb r 62) 16 0))
 
 -- the number of each row's field
 unfoldable pub fieldNumbers : List ℕ

@@ -1,17 +1,17 @@
 -- What the loop goes by that goes past fields unread. Assumes nothing.
-use mathlib.Core.Bool.{Bool, true, false, cond, _&&_, _||_}
+use mathlib.Core.Bool.{Bool, true, false, cond, not, _&&_, _||_}
 use mathlib.Core.Path.{_≡_, refl, sym, ap, ap₂, _∙_, subst}
-use Prim.Native.Nat.{ℕ, _+_, _-_, _≤_, _<_}
+use Prim.Native.Nat.{ℕ, _+_, _-_, _/_, _≤_, _<_}
 use native.Mathlib.Omega.{arith}
-use borrow.Author.Tests.{eq-eqb, ne-eqb, eqb-true, ltb-true}
-use lib.Dec.{eqb, ltb}
+use borrow.Author.Tests.{eq-eqb, ne-eqb, eqb-true, eqb-false, leb-true, ltb-true, not-true}
+use lib.Dec.{eqb, leb, ltb}
 use Rattle.bits.specs.Take.{skipAt}
 use Rattle.bits.specs.declared.Cursor.{Cursor}
 use Rattle.bits.specs.declared.Skipped.{Skipped}
 use Rattle.bits.specs.declared.Skipped.the-variants.{To}
 use Rattle.bits.proofs.Fields.{IsPast, skipped}
-use Rattle.format.specs.Table.{act, jump, fieldAt, codeOf}
-use Rattle.format.proofs.Rows.{next-in}
+use Rattle.format.specs.Table.{act, jump, rest, fieldAt}
+use Rattle.format.proofs.Rows.{next-in, send-free, no-measure}
 use Rattle.laws.proofs.Sources.{width-positive}
 use Rattle.laws.proofs.Told.{and-two}
 use Rattle.states.specs.Machine.{Tidy, Idle, later, Unread, unread, Drifted}
@@ -19,25 +19,31 @@ use Rattle.states.specs.Machine.Drifted.{nothing, field}
 use Rattle.states.specs.declared.Todo.{Todo}
 use Rattle.states.proofs.Idling.{idle-ahead}
 
--- what need not be read, by whether the telegram is told again
 -- what the test of a field says: the two cases of a telegram that is told again and of one that is not
-unread-free : (told : Bool) (k : ℕ) → cond told (eqb (codeOf (fieldAt k .sense)) 0 || ltb 2 (codeOf (fieldAt k .sense)) && ltb (codeOf (fieldAt k .sense)) 11) (ltb (codeOf (fieldAt k .sense)) 3) ≡ true
+unread-free : (told : Bool) (k : ℕ) → k < 213 → act k ≡ 2 → cond told (eqb (rest k) 0 || leb 3 (rest k) && not (eqb (rest k / 16) 2)) (ltb (rest k) 3) ≡ true
     → Unread told k
-unread-free true k e = told-free (codeOf (fieldAt k .sense)) (eqb (codeOf (fieldAt k .sense)) 0) refl e
+unread-free true k l p e = by-test (eqb (rest k) 0) refl e
   where
-    told-free : (c : ℕ) (b : Bool) → eqb c 0 ≡ b → (b || ltb 2 c && ltb c 11) ≡ true → (c ≡ 11 → ⊥) × (c ≡ 1 → ⊥) × (c ≡ 2 → ⊥)
-    told-free c true z h = let x = eqb-true c 0 z in (λ y. omega arith, λ y. omega arith, λ y. omega arith)
-    told-free c false w h =
-        let d = and-two (ltb 2 c) (ltb c 11) h in
-        let x = ltb-true 2 c (d .0) in
-        let z = ltb-true c 11 (d .1) in
+    by-test : (b : Bool) → eqb (rest k) 0 ≡ b → (b || leb 3 (rest k) && not (eqb (rest k / 16) 2)) ≡ true → Unread true k
+    by-test true z h =
+        let x = eqb-true (rest k) 0 z in
+        let c = send-free k l p (omega arith) in
         (λ y. omega arith, λ y. omega arith, λ y. omega arith)
-unread-free false k e = ltb-true (codeOf (fieldAt k .sense)) 3 e
+    by-test false w h =
+        let d = and-two (leb 3 (rest k)) (not (eqb (rest k / 16) 2)) h in
+        let x = leb-true 3 (rest k) (d .0) in
+        let y = eqb-false (rest k / 16) 2 (not-true _ (d .1)) in
+        let g = no-measure k l p (omega arith) y in
+        (λ y. omega arith, λ y. omega arith, λ y. omega arith)
+unread-free false k l p e =
+    let x = ltb-true (rest k) 3 e in
+    let c = send-free k l p (omega arith) in omega arith
 
-pub unread-so : (told : Bool) (k a c : ℕ) → a ≡ act k → c ≡ codeOf (fieldAt k .sense) → unread told a c ≡ true → (act k ≡ 2) × Unread told k
-unread-so told k a c ea ec h =
-    let d = and-two _ _ (sym (ap₂ (unread told) ea ec) ∙ h) in
-    (eqb-true (act k) 2 (d .0), unread-free told k (d .1))
+pub unread-so : (told : Bool) (k a r : ℕ) → k < 213 → a ≡ act k → r ≡ rest k → unread told a r ≡ true → (act k ≡ 2) × Unread told k
+unread-so told k a r l ea er h =
+    let d = and-two _ _ (sym (ap₂ (unread told) ea er) ∙ h) in
+    let p = eqb-true (act k) 2 (d .0) in
+    (p, unread-free told k l p (d .1))
 
 -- where a field begins, from first at the bit start on
 pub record Drifting (n : ℕ) (told : Bool) (first : Todo) (start : ℕ) (t : Todo) (at m : ℕ) : Type 0 where

@@ -4,14 +4,15 @@ use mathlib.Core.Bool.{Bool, true, false, cond, _&&_, _||_}
 use mathlib.Core.List.{List}
 use mathlib.Core.Option.{none}
 use mathlib.Core.Path.{_≡_, refl, sym, ap, _∙_}
-use Prim.Native.Nat.{ℕ, _+_, _-_, _<_, _≤_}
+use Prim.Native.Nat.{ℕ, _+_, _-_, _%_, _<_, _≤_}
 use native.Mathlib.Decide.{decLe}
 use native.Mathlib.Nat.{lt-of-not-le}
 use native.Mathlib.Omega.{arith}
-use borrow.Author.Tests.{eqb-true, eqb-false, ltb-true, leb-true}
+use borrow.Author.Tests.{eqb-true, eqb-false, ltb-true, ltb-false, leb-true}
 use lib.Dec.{eqb, leb, ltb}
 use Rattle.format.specs.Rules.{Earlier, broken, unless, forbidden}
-use Rattle.format.specs.Table.{act, jump, fieldAt, codeOf, lowOf, highOf}
+use Rattle.format.specs.Table.{act, jump, rest, fieldAt, codeOf}
+use Rattle.format.proofs.Rows.{field-free, Ranges, from-zero, from-one}
 use Rattle.laws.proofs.Told.{and-two}
 use Rattle.states.specs.Machine.{contextOf, levelOf, ruleAt, Tidy, Idle, later, Slight, slight, reached, Advanced, Noted, Sound, Judged, Settled, Entered, Directing}
 use Rattle.states.specs.declared.State.{State}
@@ -55,16 +56,30 @@ pub slight-free : {k v : ℕ} → codeOf (fieldAt k .sense) < 3 → Slight k v
 slight-free h = record { unkept = λ l. absurd (omega arith); allowed = λ l. absurd (omega arith) }
 
 -- what the test of a value says
-pub slight-so : (k v c a b : ℕ) → c ≡ codeOf (fieldAt k .sense) → a ≡ lowOf (fieldAt k) → b ≡ highOf (fieldAt k) → slight c a b v ≡ true → Slight k v
-slight-so k v c a b ec ea eb h = by-test (leb c 2) refl h
-  where
-    by-test : (t : Bool) → leb c 2 ≡ t → (t || ltb 9 c && (leb a v && leb v b)) ≡ true → Slight k v
-    by-test true z y = let x = leb-true c 2 z in slight-free (omega arith)
-    by-test false z y =
-        let d = and-two (ltb 9 c) (leb a v && leb v b) y in
-        let r = and-two (leb a v) (leb v b) (d .1) in
-        let x = ltb-true 9 c (d .0) in
-        record { unkept = λ l. omega arith; allowed = λ l. (rw (← ea) (leb-true a v (r .0)), rw (← eb) (leb-true v b (r .1))) }
+module _ (k v : ℕ) (l : k < 213) where
+  -- of a range that begins at a
+  slight-in : {a : ℕ} → Ranges a k → a ≤ v → v ≤ rest k % 16 → Slight k v
+  slight-in g h i =
+      record { unkept = λ x. g .ranged; allowed = λ x. (rw (g .low) h, rw (g .high) i) }
+
+  pub slight-so : (r : ℕ) → r ≡ rest k → 1 < act k → slight r v ≡ true → Slight k v
+  slight-so r e p h = by-free (ltb (rest k) 10) refl (sym (ap (λ x. slight x v) e) ∙ h)
+    where
+      by-one : 9 < rest k → v ≤ rest k % 16 → (t : Bool) → ltb (rest k) 48 ≡ t → (t || leb (rest k) 51 && ltb 0 v) ≡ true → Slight k v
+      by-one x i true z y = slight-in (from-zero k l x (ltb-true (rest k) 48 z)) (omega arith) i
+      by-one x i false z y =
+          let d = and-two (leb (rest k) 51) (ltb 0 v) y in
+          let m = leb-true (rest k) 51 (d .0) in
+          let n = ltb-true 0 v (d .1) in
+          let o = ltb-false (rest k) 48 z in
+          slight-in (from-one k l (omega arith) (omega arith)) (omega arith) i
+
+      by-free : (t : Bool) → ltb (rest k) 10 ≡ t → (t || leb v (rest k % 16) && (ltb (rest k) 48 || leb (rest k) 51 && ltb 0 v)) ≡ true → Slight k v
+      by-free true z y = slight-free (field-free k l p (ltb-true (rest k) 10 z))
+      by-free false z y =
+          let d = and-two (leb v (rest k % 16)) (ltb (rest k) 48 || leb (rest k) 51 && ltb 0 v) y in
+          let o = ltb-false (rest k) 10 z in
+          by-one (omega arith) (leb-true v (rest k % 16) (d .0)) (ltb (rest k) 48) refl (d .1)
 
 module _ (s : State) (d : Sound s) (v : ℕ) (q : Slight (s .todo .node) v) {u : Todo} (a : Advanced (s .todo) v (On u))
     {x : ℕ} (ex : x ≡ s .at + fieldAt (s .todo .node) .width) where

@@ -29,11 +29,11 @@ collides-once s stop id dir = equation-once (collidesAmong clash id dir (packets
 pub meets-once : (name way id dir : ℕ) → Once (λ r. r ≡ (eqb id name && clash dir way))
 meets-once name way id dir = equation-once (eqb id name && clash dir way)
 
-pub unread-once : (told : Bool) (a c : ℕ) → Once (λ r. r ≡ unread told a c)
-unread-once told a c = equation-once (unread told a c)
+pub unread-once : (told : Bool) (a r : ℕ) → Once (λ x. x ≡ unread told a r)
+unread-once told a r = equation-once (unread told a r)
 
-pub slight-once : (c low high v : ℕ) → Once (λ r. r ≡ slight c low high v)
-slight-once c low high v = equation-once (slight c low high v)
+pub slight-once : (r v : ℕ) → Once (λ x. x ≡ slight r v)
+slight-once r v = equation-once (slight r v)
 
 pub closes-once : (s : State) (at : ℕ) → Once (λ r. (l : List Earlier) → r ≡ rules.closes at (contextOf l s) (levelOf (s .level)))
 closes-once s at a b p q = p [] ∙ sym (q [])

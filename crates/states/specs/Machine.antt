@@ -3,7 +3,7 @@ use mathlib.Core.Path.{_≡_}
 use mathlib.Core.Bool.{true, false, Bool, cond, not, _&&_, _||_}
 use mathlib.Core.List.{List, [], _∷_}
 use mathlib.Core.Option.{Option, some, none}
-use Prim.Native.Nat.{ℕ, suc, _+_, _-_, _^_, _<_, _≤_}
+use Prim.Native.Nat.{ℕ, suc, _+_, _-_, _/_, _%_, _^_, _<_, _≤_}
 use lib.Dec.{eqb, leb, ltb}
 use lib.ListN.{getD}
 use Rattle.format.specs.Fields.{Rule, Sense}
@@ -109,9 +109,9 @@ Unread true k =
     (codeOf (fieldAt k .sense) ≡ 11 → ⊥) × (codeOf (fieldAt k .sense) ≡ 1 → ⊥) × (codeOf (fieldAt k .sense) ≡ 2 → ⊥)
 Unread false k = codeOf (fieldAt k .sense) < 3
 
--- the same by what stands in the row and by the field's code, for a field that steers nothing
+-- the same by what stands in the row and by its rest, for a field that steers nothing
 abbrev pub unread : Bool → ℕ → ℕ → Bool
-unread told a c = eqb a 2 && cond told (eqb c 0 || ltb 2 c && ltb c 11) (ltb c 3)
+unread told a r = eqb a 2 && cond told (eqb r 0 || leb 3 r && not (eqb (r / 16) 2)) (ltb r 3)
 
 -- from t at a position, so many such fields up to bit n lead to a todo at another position
 pub data Drifted (n : ℕ) (told : Bool) (t : Todo) (at : ℕ) : Todo → ℕ → ℕ → Type 0 where
@@ -124,9 +124,9 @@ pub record Slight (k v : ℕ) : Type 0 where
   pub unkept : 2 < codeOf (fieldAt k .sense) → 9 < codeOf (fieldAt k .sense)
   pub allowed : 9 < codeOf (fieldAt k .sense) → (lowOf (fieldAt k) ≤ v) × (v ≤ highOf (fieldAt k))
 
--- the same by the field's code and its range
-abbrev pub slight : ℕ → ℕ → ℕ → ℕ → Bool
-slight c low high v = leb c 2 || ltb 9 c && (leb low v && leb v high)
+-- the same by the rest of the row of a field: the range has its high end in the lowest four bits, and begins at 0, or at 1 from 48 on
+abbrev pub slight : ℕ → ℕ → Bool
+slight r v = ltb r 10 || leb v (r % 16) && (ltb r 48 || leb r 51 && ltb 0 v)
 
 -- where such a value leads, if to a field or to the packet's end
 abbrev pub Eased : Todo → ℕ → Easy → Type 0

@@ -1,11 +1,14 @@
 // The numbers of the table: what stands in a row, and the codes of fields.
 
-// What stands in a row: the end of a group or a packet, the packet inside one, a field, and a field that says how often a group is sent.
+// What stands in a row: the end of a group or a packet, the packet inside one, a field, a
+// field that the next one is sent only behind if it is 1, and a field that says how often a group is sent.
 pub const END: u32 = 0;
 
 pub const NEST: u32 = 1;
 
 pub const SEND: u32 = 2;
+
+pub const IF: u32 = 3;
 
 pub const TIMES: u32 = 5;
 

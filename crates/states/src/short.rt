@@ -1,45 +1,45 @@
-// The short ways: which fields need not be read, and which values need nothing of where a telegram stands.
+// The short ways: which fields need not be read, and which values need nothing of where a telegram stands. Both go by the rest of a row, as
+// `format::table` packs it.
 ghost use mathlib.Core.Path.{_≡_};
 ghost use Rattle.states.specs.Machine.{unread, slight};
-use crate::codes::ANY;
-use crate::codes::DIRECTION;
-use crate::codes::SCALE;
 use crate::codes::SEND;
-use crate::codes::SIZE;
-use crate::codes::TEXT;
 
 // Whether a field steers nothing and may be gone past: in a telegram that is told again, where it is no scale and no distance; and else,
-// where it may hold anything and nothing is kept of it. a: what stands in its row. c: its code.
-pub fn unread(a: u32, c: u32, told: bool) -> bool
-    ensures { λ r. ⌜ r ≡ unread told a c ⌝ }
+// where it may hold anything and nothing is kept of it. a: what stands in its row. r: the rest of its row.
+pub fn unread(a: u32, r: u32, told: bool) -> bool
+    ensures { λ x. ⌜ x ≡ unread told a r ⌝ }
 {
     if a != SEND {
         return false;
     }
     if told {
-        if c == ANY {
+        if r == 0 {
             return true;
         }
-        if c <= TEXT {
+        if r < 3 {
             return false;
         }
-        return c < SCALE;
+        return r / 16 != 2;
     }
-    c < SIZE
+    r < 3
 }
 
-// Whether nothing is kept of a value and it keeps its rule, which is a range or none. c: the code of its field.
-pub fn slight(c: u32, low: u64, high: u64, v: u64) -> bool
-    ensures { λ r. ⌜ r ≡ slight c low high v ⌝ }
+// Whether nothing is kept of a value and it keeps its rule, which is a range or none. r: the rest of its field's row.
+pub fn slight(r: u32, v: u64) -> bool
+    ensures { λ x. ⌜ x ≡ slight r v ⌝ }
 {
-    if c <= TEXT {
+    if r < 10 {
         return true;
     }
-    if c <= DIRECTION {
+    let high = (r % 16) as u64;
+    if high < v {
         return false;
     }
-    if v < low {
+    if r < 48 {
+        return true;
+    }
+    if 51 < r {
         return false;
     }
-    v <= high
+    0 < v
 }

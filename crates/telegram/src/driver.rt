@@ -3,10 +3,9 @@ ghost use mathlib.Core.Path.{_≡_};
 ghost use Rattle.format.specs.Table.{words};
 ghost use Rattle.states.specs.Machine.{Tidy, Drifted, Eased};
 use crate::rows::act;
+use crate::rows::back;
 use crate::rows::code;
-use crate::rows::high;
-use crate::rows::jump;
-use crate::rows::low;
+use crate::rows::rest;
 use crate::rows::width;
 use crate::todo::moved;
 use crate::todo::turned;
@@ -22,7 +21,7 @@ use states::unread;
 
 // Goes past fields unread, through the cursor, up to one that has to be read, that is the last of its packet or of its list, or that would end
 // past bit n. What follows a field is told apart here in place, so that the processor can guess it.
-pub(crate) fn drift(rows: &[u32; 213], n: usize, told: bool, from: Todo, start: Cursor) -> Reach
+pub(crate) fn drift(rows: &[u16; 213], n: usize, told: bool, from: Todo, start: Cursor) -> Reach
     requires { ⌜ (now rows ≡ words) × Tidy from ⌝ }
     ensures { λ r. ⌜ Drifted n told from (start .at) (r .todo) (r .cursor .at) (r .fields) ⌝ }
 {
@@ -31,7 +30,7 @@ pub(crate) fn drift(rows: &[u32; 213], n: usize, told: bool, from: Todo, start: 
     let mut fields: usize = 0;
     loop {
         let k = t.node;
-        if !unread(act(rows, k), code(rows, k), told) {
+        if !unread(act(rows, k), rest(rows, k), told) {
             break;
         }
         let Skipped::To(next) = c.skip(n, width(rows, k)) else {
@@ -43,13 +42,14 @@ pub(crate) fn drift(rows: &[u32; 213], n: usize, told: bool, from: Todo, start: 
             fields += 1;
             continue;
         }
-        if jump(rows, k + 1) == 0 {
+        let u = back(rows, k + 1);
+        if u == 0 {
             break;
         }
         if t.left == 0 {
             break;
         }
-        t.node = jump(rows, k + 1) + 1;
+        t.node = u + 1;
         t.left -= 1;
         c = next;
         fields += 1;
@@ -61,23 +61,34 @@ pub(crate) fn drift(rows: &[u32; 213], n: usize, told: bool, from: Todo, start: 
     }
 }
 
-// What is to be sent after a value that keeps its rule and of which nothing is kept, if one turn finds a field or the packet's end.
-pub(crate) fn ease(rows: &[u32; 213], t: Todo, v: u64) -> Easy
+// What is to be sent after a value that keeps its rule and of which nothing is kept, if one turn finds a field or the packet's end. Where the
+// field steers nothing and another follows it, as most do, there is no turn to look for.
+pub(crate) fn ease(rows: &[u16; 213], t: Todo, v: u64) -> Easy
     requires { ⌜ (now rows ≡ words) × Tidy t ⌝ }
     ensures { λ r. ⌜ Eased t v r ⌝ }
 {
     let k = t.node;
-    if !slight(code(rows, k), low(rows, k), high(rows, k), v) {
+    if !slight(rest(rows, k), v) {
         return Easy::Not;
     }
-    if act(rows, k) < SEND {
+    let a = act(rows, k);
+    if a < SEND {
         return Easy::Not;
+    }
+    if a == SEND {
+        if act(rows, k + 1) != END {
+            return Easy::To(Todo {
+                node: k + 1,
+                left: t.left,
+                outer: t.outer,
+            });
+        }
     }
     let u = turned(rows, moved(rows, t, v));
     if act(rows, u.node) != END {
         return Easy::To(u);
     }
-    if jump(rows, u.node) == 0 {
+    if back(rows, u.node) == 0 {
         return Easy::Ends(u);
     }
     Easy::Not

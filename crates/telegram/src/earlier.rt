@@ -24,7 +24,7 @@ use states::meets;
 const HEADER: usize = 10;
 
 // Whether v is the Q_DIR of a packet that collides with one before it, in the bits of s.
-pub(crate) fn repeated_in_bits(rows: &[u32; 213], s: &[u8], st: State, v: u64) -> bool
+pub(crate) fn repeated_in_bits(rows: &[u16; 213], s: &[u8], st: State, v: u64) -> bool
     requires { ⌜ InTable (now rows) (st .todo .node) ⌝ }
     ensures { λ r. ⌜ Twice st v (packetsBefore (now (s .entry)) (st .start)) r ⌝ }
 {
@@ -36,7 +36,7 @@ pub(crate) fn repeated_in_bits(rows: &[u32; 213], s: &[u8], st: State, v: u64) -
 
 // Whether v, which is the value number i, is the Q_DIR of a packet that collides with one before it.
 pub(crate) fn repeated_in_values(
-    rows: &[u32; 213],
+    rows: &[u16; 213],
     values: &[u64],
     i: usize,
     st: State,
@@ -52,7 +52,7 @@ pub(crate) fn repeated_in_values(
 }
 
 // Whether the field that is due is the Q_DIR of a packet, by which packets collide.
-fn directing(rows: &[u32; 213], s: State) -> bool
+fn directing(rows: &[u16; 213], s: State) -> bool
     requires { ⌜ InTable (now rows) (s .todo .node) ⌝ }
     ensures { λ r. ⌜ Directing s r ⌝ }
 {
@@ -71,7 +71,7 @@ fn directing(rows: &[u32; 213], s: State) -> bool
 
 // Whether a packet with this NID_PACKET and Q_DIR collides with one of those among the first n values. These are gone over again from the header's end
 // on: an L_PACKET counts bits, and does not say how many values its packet has.
-fn collides_in_values(rows: &[u32; 213], values: &[u64], n: usize, id: u64, dir: u64) -> bool
+fn collides_in_values(rows: &[u16; 213], values: &[u64], n: usize, id: u64, dir: u64) -> bool
     requires { ⌜ (now rows ≡ words) × (n ≤ length (now values)) ⌝ }
     ensures { λ r. ⌜ r ≡ collidesAmong clash id dir (packetsAmong (now (values .entry)) n) ⌝ }
 {
@@ -103,7 +103,7 @@ fn collides_in_values(rows: &[u32; 213], values: &[u64], n: usize, id: u64, dir:
 }
 
 // Whether a packet begins with the value v that collides with this one, where w is the value behind v.
-fn packet_meets(rows: &[u32; 213], t: Todo, v: u64, w: u64, id: u64, dir: u64) -> bool
+fn packet_meets(rows: &[u16; 213], t: Todo, v: u64, w: u64, id: u64, dir: u64) -> bool
     requires { ⌜ (now rows ≡ words) × Tidy t ⌝ }
     ensures { λ r. ⌜ r ≡ (begins (todoOf t) && (eqb id v && clash dir w)) ⌝ }
 {

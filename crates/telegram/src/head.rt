@@ -60,7 +60,7 @@ pub(crate) fn header(s: &[u8], n: usize) -> Begun
 }
 
 // The head that is due, if one is: of a packet, or of the CTCS packet inside one.
-pub(crate) fn leading(rows: &[u32; 213], s: &[u8], n: usize, st: State) -> Begun
+pub(crate) fn leading(rows: &[u16; 213], s: &[u8], n: usize, st: State) -> Begun
     requires { ⌜ InTable (now rows) (st .todo .node) ⌝ }
     ensures { λ r. ⌜ Led (now (s .entry)) n st r ⌝ }
 {
@@ -76,7 +76,7 @@ pub(crate) fn leading(rows: &[u32; 213], s: &[u8], n: usize, st: State) -> Begun
 
 // The head of the packet that begins here, if it keeps every rule, its packet collides with none before it, and a field follows it. Row 0, which
 // stands for no packet, has no Q_DIR.
-fn head(rows: &[u32; 213], s: &[u8], n: usize, st: State) -> Begun
+fn head(rows: &[u16; 213], s: &[u8], n: usize, st: State) -> Begun
     requires { ⌜ now rows ≡ words ⌝ }
     ensures { λ r. ⌜ Headed (now (s .entry)) n st r ⌝ }
 {
@@ -120,7 +120,7 @@ fn head(rows: &[u32; 213], s: &[u8], n: usize, st: State) -> Begun
 }
 
 // The head of the CTCS packet that begins here, if it keeps every rule, its Q_DIR is that of the packet around it, and a field follows it.
-fn inner(rows: &[u32; 213], s: &[u8], n: usize, st: State) -> Begun
+fn inner(rows: &[u16; 213], s: &[u8], n: usize, st: State) -> Begun
     requires { ⌜ now rows ≡ words ⌝ }
     ensures { λ r. ⌜ Inward (now (s .entry)) n st r ⌝ }
 {

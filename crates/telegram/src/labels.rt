@@ -65,7 +65,7 @@ fn name(values: &[u64], fields: &mut [u8])
 }
 
 // The number of the field that is due in row k and holds v. Where a packet could begin, 255 is no packet but the end mark, a field of its own.
-fn number(rows: &[u32; 213], numbers: &[u8; 213], k: usize, v: u64) -> u8
+fn number(rows: &[u16; 213], numbers: &[u8; 213], k: usize, v: u64) -> u8
     requires { ⌜ InTable (now rows) k × (now numbers ≡ fieldNumbers) ⌝ }
     ensures { λ r. ⌜ r ≡ numberAt k v ⌝ }
 {

@@ -21,7 +21,7 @@ use states::noted;
 // ---- one field
 
 // After a packet's last field its length is tested, and the next packet or the end mark is due.
-fn settled(rows: &[u32; 213], s: State) -> Outcome
+fn settled(rows: &[u16; 213], s: State) -> Outcome
     requires { ⌜ Settling (now rows) s ⌝ }
     ensures { λ r. ⌜ Settled s r ⌝ }
 {
@@ -60,7 +60,7 @@ pub(crate) fn fresh(at: usize, pig: u64) -> State
 }
 
 // What follows a value that keeps its rule.
-fn entered(rows: &[u32; 213], s: State, v: u64) -> Outcome
+fn entered(rows: &[u16; 213], s: State, v: u64) -> Outcome
     requires { ⌜ Stepping (now rows) s v ⌝ }
     ensures { λ r. ⌜ Entered s v r ⌝ }
 {
@@ -91,7 +91,7 @@ fn entered(rows: &[u32; 213], s: State, v: u64) -> Outcome
 }
 
 // The field that is due holds v: the rule that this breaks, or where the telegram then stands.
-pub(crate) fn step(rows: &[u32; 213], s: State, v: u64, twice: bool) -> Outcome
+pub(crate) fn step(rows: &[u16; 213], s: State, v: u64, twice: bool) -> Outcome
     requires { ⌜ Stepping (now rows) s v ⌝ }
     ensures { λ r. ⌜ Stepped s v twice r ⌝ }
 {

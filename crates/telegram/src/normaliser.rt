@@ -112,7 +112,7 @@ fn patch(s: &[u8], n: usize, out: &mut [u8])
 
 // What is sent for the value v of row k, before what u says is to be sent from the cursor on.
 fn retell(
-    rows: &[u32; 213],
+    rows: &[u16; 213],
     s: &[u8],
     n: usize,
     k: usize,
@@ -137,7 +137,7 @@ fn retell(
 
 // At a scale of v: in metres, if every distance up to the next scale can be told so, and else as it is. In metres it is already, if
 // v says so.
-fn rescale(rows: &[u32; 213], s: &[u8], n: usize, v: u64, u: Todo, next: Cursor) -> Retold
+fn rescale(rows: &[u16; 213], s: &[u8], n: usize, v: u64, u: Todo, next: Cursor) -> Retold
     requires { ⌜ (now rows ≡ words) × (v ≤ 2) × Some (now s) n u (next .at) ⌝ }
     ensures { λ r. ⌜ Whichever (now (s .entry)) n u (next .at) (λ es. Rescaled v es r) ⌝ }
 {
@@ -175,7 +175,7 @@ fn scale(v: u64) -> Scale
 }
 
 // Whether every distance from here up to the next scale is, at the scale q, a whole number of metres that fits its field.
-fn metric(rows: &[u32; 213], s: &[u8], n: usize, q: Scale, first: Todo, start: Cursor) -> bool
+fn metric(rows: &[u16; 213], s: &[u8], n: usize, q: Scale, first: Todo, start: Cursor) -> bool
     requires { ⌜ (now rows ≡ words) × Some (now s) n first (start .at) ⌝ }
     ensures { λ r. ⌜ Whichever (now (s .entry)) n first (start .at) (λ es. r ≡ metric (numberOf q) es) ⌝ }
 {
@@ -208,7 +208,7 @@ fn metric(rows: &[u32; 213], s: &[u8], n: usize, q: Scale, first: Todo, start: C
 }
 
 // What the value v of row k says to that.
-fn looked(rows: &[u32; 213], q: Scale, k: usize, v: u64, w: usize) -> Look
+fn looked(rows: &[u16; 213], q: Scale, k: usize, v: u64, w: usize) -> Look
     requires { ⌜ InTable (now rows) k × (w ≡ fieldAt k .width) × (v < 2 ^ w) ⌝ }
     ensures { λ r. ⌜ Looked q k v w r ⌝ }
 {

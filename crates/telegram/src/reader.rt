@@ -94,7 +94,7 @@ fn scan(s: &[u8], n: usize) -> Answer
 
 // Goes on from there, where so many fields were before, up to the first broken rule or the end mark, each field through the cursor: those that no
 // rule reads are gone past, and every other is taken.
-fn walk(rows: &[u32; 213], s: &[u8], n: usize, from: State, before: usize) -> Answer
+fn walk(rows: &[u16; 213], s: &[u8], n: usize, from: State, before: usize) -> Answer
     requires { ⌜ Scans (now s) n (now rows) from (record { at = from .at }) before ⌝ }
     ensures { λ r. ⌜ r ≡ answerOf (telegrams.read paper (take n (bitsOf (now (s .entry))))) ⌝ }
 {

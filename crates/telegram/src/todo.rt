@@ -3,6 +3,7 @@ ghost use Prim.Native.Nat.{_<_};
 ghost use Rattle.format.specs.Table.{act};
 ghost use Rattle.states.specs.Machine.{InTable, Tidy, Followed, Moved, Turned, Advanced};
 use crate::rows::act;
+use crate::rows::back;
 use crate::rows::jump;
 use format::packets;
 use states::Ahead;
@@ -12,26 +13,32 @@ use states::codes::NEST;
 use states::codes::SEND;
 use states::codes::TIMES;
 
-// The row after a field that repeats nothing.
-fn follow(rows: &[u32; 213], k: usize, v: u64) -> usize
-    requires { ⌜ InTable (now rows) k × (1 < act k) × (act k < 5) ⌝ }
+// The row after a field that steers and repeats nothing.
+fn follow(rows: &[u16; 213], k: usize, v: u64) -> usize
+    requires { ⌜ InTable (now rows) k × (2 < act k) × (act k < 5) ⌝ }
     ensures { λ r. ⌜ Followed k v r ⌝ }
 {
-    if act(rows, k) != SEND {
-        if v != 1 {
-            return jump(rows, k);
-        }
+    if v == 1 {
+        return k + 1;
     }
-    k + 1
+    jump(rows, k)
 }
 
 // The field is passed: the next row, or the first row of the group that it repeats.
-pub(crate) fn moved(rows: &[u32; 213], t: Todo, v: u64) -> Todo
+pub(crate) fn moved(rows: &[u16; 213], t: Todo, v: u64) -> Todo
     requires { ⌜ InTable (now rows) (t .node) × (1 < act (t .node)) ⌝ }
     ensures { λ r. ⌜ Moved t v r ⌝ }
 {
     let k = t.node;
-    if act(rows, k) != TIMES {
+    let a = act(rows, k);
+    if a == SEND {
+        return Todo {
+            node: k + 1,
+            left: t.left,
+            outer: t.outer,
+        };
+    }
+    if a != TIMES {
         return Todo {
             node: follow(rows, k, v),
             left: t.left,
@@ -52,8 +59,8 @@ pub(crate) fn moved(rows: &[u32; 213], t: Todo, v: u64) -> Todo
     }
 }
 
-// At a group's end: the group again, or what follows its last.
-pub(crate) fn turned(rows: &[u32; 213], t: Todo) -> Todo
+// At a group's end: the group again, or the next row, which follows its last.
+pub(crate) fn turned(rows: &[u16; 213], t: Todo) -> Todo
     requires { ⌜ InTable (now rows) (t .node) ⌝ }
     ensures { λ r. ⌜ Turned t r ⌝ }
 {
@@ -61,13 +68,13 @@ pub(crate) fn turned(rows: &[u32; 213], t: Todo) -> Todo
     if act(rows, k) != END {
         return t;
     }
-    let u = jump(rows, k);
+    let u = back(rows, k);
     if u == 0 {
         return t;
     }
     if t.left == 0 {
         return Todo {
-            node: jump(rows, u),
+            node: k + 1,
             left: t.outer,
             outer: 0,
         };
@@ -80,7 +87,7 @@ pub(crate) fn turned(rows: &[u32; 213], t: Todo) -> Todo
 }
 
 // What is to be sent after the field that is due holds v. No group holds two others, so that two turns are enough.
-fn further(rows: &[u32; 213], t: Todo, v: u64) -> Ahead
+fn further(rows: &[u16; 213], t: Todo, v: u64) -> Ahead
     requires { ⌜ InTable (now rows) (t .node) × Tidy t ⌝ }
     ensures { λ r. ⌜ Advanced t v r ⌝ }
 {
@@ -111,7 +118,7 @@ fn further(rows: &[u32; 213], t: Todo, v: u64) -> Ahead
 }
 
 // The same, with no more ado where the field steers nothing and another follows it, as most do.
-pub(crate) fn advance(rows: &[u32; 213], t: Todo, v: u64) -> Ahead
+pub(crate) fn advance(rows: &[u16; 213], t: Todo, v: u64) -> Ahead
     requires { ⌜ InTable (now rows) (t .node) × Tidy t ⌝ }
     ensures { λ r. ⌜ Advanced t v r ⌝ }
 {

@@ -33,7 +33,7 @@ fn forbidden(l: Level) -> Verdict
 }
 
 // Whether a value lies in the range of its field.
-fn ranged(rows: &[u32; 213], k: usize, l: Level, v: u64) -> Verdict
+fn ranged(rows: &[u16; 213], k: usize, l: Level, v: u64) -> Verdict
     requires { ⌜ InTable (now rows) k ⌝ }
     ensures { λ r. ⌜ verdictOf r ≡ Ranged (leb (lowOf (fieldAt k)) v && leb v (highOf (fieldAt k))) l ⌝ }
 {
@@ -122,7 +122,7 @@ fn direction(s: State, v: u64, twice: bool) -> Verdict
 }
 
 // The rule that a value breaks at the field that is due. twice: whether its packet collides with an earlier one, where it is a Q_DIR.
-pub(crate) fn judge(rows: &[u32; 213], s: State, v: u64, twice: bool) -> Verdict
+pub(crate) fn judge(rows: &[u16; 213], s: State, v: u64, twice: bool) -> Verdict
     requires { ⌜ Judging (now rows) s ⌝ }
     ensures { λ r. ⌜ Judged s v twice r ⌝ }
 {

@@ -21,8 +21,8 @@ loop-holds c = drifting-first (c .pre .1)
 act-requires : tie.Need-act-requires Inv-loop μ-loop
 act-requires c κs = record { table = c .before .pre .0; inside = c .loop .inv .tidy .inside }
 
-code-requires : tie.Need-code-requires Inv-loop μ-loop
-code-requires c κs = record { table = c .before .before .pre .0; inside = c .before .loop .inv .tidy .inside }
+rest-requires : tie.Need-rest-requires Inv-loop μ-loop
+rest-requires c κs = record { table = c .before .before .pre .0; inside = c .before .loop .inv .tidy .inside }
 
 unread-requires : tie.Need-unread-requires Inv-loop μ-loop
 unread-requires c κs = search needs
@@ -43,7 +43,9 @@ add-act : tie.Need-add-act Inv-loop μ-loop
 add-act c = omega (arith, c .before .before .before .before .before .before .before .before .before .loop .inv .tidy .inside)
 
 act-requires-2 : tie.Need-act-requires-2 Inv-loop μ-loop
-act-requires-2 c κs = let u = unread-so (c .before .before .before .before .before .before .before .before .before .before .args .told) (c .before .before .before .before .before .before .before .before .before .loop .t .node) _ _ (c .before .before .before .before .before .before .before .before .act .ensures) (c .before .before .before .before .before .before .before .code .ensures) (sym (c .before .before .before .before .before .before .unread .ensures) ∙ not-false _ (c .before .before .before .before .before .if1 .left)) in record { table = c .before .before .before .before .before .before .before .before .before .before .pre .0; inside = after-in (c .before .before .before .before .before .before .before .before .before .loop .inv) (u .0) }
+act-requires-2 c κs =
+    let u = unread-so (c .before .before .before .before .before .before .before .before .before .before .args .told) (c .before .before .before .before .before .before .before .before .before .loop .t .node) _ _ (c .before .before .before .before .before .before .before .before .before .loop .inv .tidy .inside) (c .before .before .before .before .before .before .before .before .act .ensures) (c .before .before .before .before .before .before .before .rest .ensures) (sym (c .before .before .before .before .before .before .unread .ensures) ∙ not-false _ (c .before .before .before .before .before .if1 .left)) in
+    record { table = c .before .before .before .before .before .before .before .before .before .before .pre .0; inside = after-in (c .before .before .before .before .before .before .before .before .before .loop .inv) (u .0) }
 
 -- the next row
 
@@ -58,43 +60,39 @@ loop-less c = nearer (c .before .before .before .before .before .before .before 
 
 loop-again : tie.Need-loop-again Inv-loop μ-loop
 loop-again c =
-    let u = unread-so (c .before .before .before .before .before .before .before .before .before .before .before .before .args .told) (c .before .before .before .before .before .before .before .before .before .before .before .loop .t .node) _ _ (c .before .before .before .before .before .before .before .before .before .before .act .ensures) (c .before .before .before .before .before .before .before .before .before .code .ensures) (sym (c .before .before .before .before .before .before .before .before .unread .ensures) ∙ not-false _ (c .before .before .before .before .before .before .before .if1 .left)) in
+    let u = unread-so (c .before .before .before .before .before .before .before .before .before .before .before .before .args .told) (c .before .before .before .before .before .before .before .before .before .before .before .loop .t .node) _ _ (c .before .before .before .before .before .before .before .before .before .before .before .loop .inv .tidy .inside) (c .before .before .before .before .before .before .before .before .before .before .act .ensures) (c .before .before .before .before .before .before .before .before .before .rest .ensures) (sym (c .before .before .before .before .before .before .before .before .unread .ensures) ∙ not-false _ (c .before .before .before .before .before .before .before .if1 .left)) in
     drifts-next (c .before .before .before .before .before .before .before .before .before .before .before .loop .inv) (c .before .before .before .before .before .before .width .ensures) (c .before .before .before .before .before .skip .ensures) (c .before .before .before .next .given .1) (u .0) (u .1) (λ e. c .if2 .taken (c .before .act2 .ensures ∙ e))
 
 -- the group again
 
-add-jump : tie.Need-add-jump Inv-loop μ-loop
-add-jump c = omega (arith, c .before .before .before .before .before .before .before .before .before .before .before .loop .inv .tidy .inside)
+add-back : tie.Need-add-back Inv-loop μ-loop
+add-back c = omega (arith, c .before .before .before .before .before .before .before .before .before .before .before .loop .inv .tidy .inside)
 
-jump-requires : tie.Need-jump-requires Inv-loop μ-loop
-jump-requires c κs = let u = unread-so (c .before .before .before .before .before .before .before .before .before .before .before .before .args .told) (c .before .before .before .before .before .before .before .before .before .before .before .loop .t .node) _ _ (c .before .before .before .before .before .before .before .before .before .before .act .ensures) (c .before .before .before .before .before .before .before .before .before .code .ensures) (sym (c .before .before .before .before .before .before .before .before .unread .ensures) ∙ not-false _ (c .before .before .before .before .before .before .before .if1 .left)) in record { table = c .before .before .before .before .before .before .before .before .before .before .before .before .pre .0; inside = after-in (c .before .before .before .before .before .before .before .before .before .before .before .loop .inv) (u .0) }
-
-add-jump-2 : tie.Need-add-jump-2 Inv-loop μ-loop
-add-jump-2 c = omega (arith, c .before .before .before .before .before .before .before .before .before .before .before .before .before .before .before .loop .inv .tidy .inside)
-
-jump-requires-2 : tie.Need-jump-requires-2 Inv-loop μ-loop
-jump-requires-2 c κs = let u = unread-so (c .before .before .before .before .before .before .before .before .before .before .before .before .before .before .before .before .args .told) (c .before .before .before .before .before .before .before .before .before .before .before .before .before .before .before .loop .t .node) _ _ (c .before .before .before .before .before .before .before .before .before .before .before .before .before .before .act .ensures) (c .before .before .before .before .before .before .before .before .before .before .before .before .before .code .ensures) (sym (c .before .before .before .before .before .before .before .before .before .before .before .before .unread .ensures) ∙ not-false _ (c .before .before .before .before .before .before .before .before .before .before .before .if1 .left)) in record { table = c .before .before .before .before .before .before .before .before .before .before .before .before .before .before .before .before .pre .0; inside = after-in (c .before .before .before .before .before .before .before .before .before .before .before .before .before .before .before .loop .inv) (u .0) }
+back-requires : tie.Need-back-requires Inv-loop μ-loop
+back-requires c κs =
+    let u = unread-so (c .before .before .before .before .before .before .before .before .before .before .before .before .args .told) (c .before .before .before .before .before .before .before .before .before .before .before .loop .t .node) _ _ (c .before .before .before .before .before .before .before .before .before .before .before .loop .inv .tidy .inside) (c .before .before .before .before .before .before .before .before .before .before .act .ensures) (c .before .before .before .before .before .before .before .before .before .rest .ensures) (sym (c .before .before .before .before .before .before .before .before .unread .ensures) ∙ not-false _ (c .before .before .before .before .before .before .before .if1 .left)) in
+    (record { table = c .before .before .before .before .before .before .before .before .before .before .before .before .pre .0; inside = after-in (c .before .before .before .before .before .before .before .before .before .before .before .loop .inv) (u .0) }, sym (c .before .act2 .ensures) ∙ c .if2 .left)
 
 add-t-2 : tie.Need-add-t-2 Inv-loop μ-loop
 add-t-2 c =
-    let u = unread-so (c .before .before .before .before .before .before .before .before .before .before .before .before .before .before .before .before .before .args .told) (c .before .before .before .before .before .before .before .before .before .before .before .before .before .before .before .before .loop .t .node) _ _ (c .before .before .before .before .before .before .before .before .before .before .before .before .before .before .before .act .ensures) (c .before .before .before .before .before .before .before .before .before .before .before .before .before .before .code .ensures) (sym (c .before .before .before .before .before .before .before .before .before .before .before .before .before .unread .ensures) ∙ not-false _ (c .before .before .before .before .before .before .before .before .before .before .before .before .if1 .left)) in
-    let j = jump-in (c .before .before .before .before .before .before .before .before .before .before .before .before .before .before .before .before .loop .t .node + 1) (after-in (c .before .before .before .before .before .before .before .before .before .before .before .before .before .before .before .before .loop .inv) (u .0)) in
-    omega (arith, c .jump2 .ensures)
+    let u = unread-so (c .before .before .before .before .before .before .before .before .before .before .before .before .before .before .before .before .args .told) (c .before .before .before .before .before .before .before .before .before .before .before .before .before .before .before .loop .t .node) _ _ (c .before .before .before .before .before .before .before .before .before .before .before .before .before .before .before .loop .inv .tidy .inside) (c .before .before .before .before .before .before .before .before .before .before .before .before .before .before .act .ensures) (c .before .before .before .before .before .before .before .before .before .before .before .before .before .rest .ensures) (sym (c .before .before .before .before .before .before .before .before .before .before .before .before .unread .ensures) ∙ not-false _ (c .before .before .before .before .before .before .before .before .before .before .before .if1 .left)) in
+    let j = jump-in (c .before .before .before .before .before .before .before .before .before .before .before .before .before .before .before .loop .t .node + 1) (after-in (c .before .before .before .before .before .before .before .before .before .before .before .before .before .before .before .loop .inv) (u .0)) in
+    omega (arith, c .before .before .before .back .ensures)
 
 sub-t : tie.Need-sub-t Inv-loop μ-loop
-sub-t c = let l = c .before .before .if4 .left in omega arith
+sub-t c = let l = c .before .if4 .left in omega arith
 
 add-fields-2 : tie.Need-add-fields-2 Inv-loop μ-loop
-add-fields-2 c = omega (arith, more (c .before .before .before .before .before .before .before .before .before .before .before .before .before .before .before .before .before .loop .inv) (c .before .before .before .before .before .before .before .before .before .before .before .before .width .ensures) (c .before .before .before .before .before .before .before .before .before .before .before .skip .ensures) (c .before .before .before .before .before .before .before .before .before .next .given .1), c .before .before .before .before .before .before .before .before .before .before .before .before .before .before .before .before .before .before .fits .n)
+add-fields-2 c = omega (arith, more (c .before .before .before .before .before .before .before .before .before .before .before .before .before .before .before .before .loop .inv) (c .before .before .before .before .before .before .before .before .before .before .before .width .ensures) (c .before .before .before .before .before .before .before .before .before .before .skip .ensures) (c .before .before .before .before .before .before .before .before .next .given .1), c .before .before .before .before .before .before .before .before .before .before .before .before .before .before .before .before .before .fits .n)
 
 loop-less-2 : tie.Need-loop-less-2 Inv-loop μ-loop
-loop-less-2 c = nearer (c .before .before .before .before .before .before .before .before .before .before .before .before .before .before .before .before .before .loop .inv) (c .before .before .before .before .before .before .before .before .before .before .before .before .width .ensures) (c .before .before .before .before .before .before .before .before .before .before .before .skip .ensures) (c .before .before .before .before .before .before .before .before .before .next .given .1)
+loop-less-2 c = nearer (c .before .before .before .before .before .before .before .before .before .before .before .before .before .before .before .before .loop .inv) (c .before .before .before .before .before .before .before .before .before .before .before .width .ensures) (c .before .before .before .before .before .before .before .before .before .before .skip .ensures) (c .before .before .before .before .before .before .before .before .next .given .1)
 
 loop-again-2 : tie.Need-loop-again-2 Inv-loop μ-loop
 loop-again-2 c =
-    let u = unread-so (c .before .before .before .before .before .before .before .before .before .before .before .before .before .before .before .before .before .before .args .told) (c .before .before .before .before .before .before .before .before .before .before .before .before .before .before .before .before .before .loop .t .node) _ _ (c .before .before .before .before .before .before .before .before .before .before .before .before .before .before .before .before .act .ensures) (c .before .before .before .before .before .before .before .before .before .before .before .before .before .before .before .code .ensures) (sym (c .before .before .before .before .before .before .before .before .before .before .before .before .before .before .unread .ensures) ∙ not-false _ (c .before .before .before .before .before .before .before .before .before .before .before .before .before .if1 .left)) in
-    rw (c .before .jump2 .ensures)
-    (drifts-again (c .before .before .before .before .before .before .before .before .before .before .before .before .before .before .before .before .before .loop .inv) (c .before .before .before .before .before .before .before .before .before .before .before .before .width .ensures) (c .before .before .before .before .before .before .before .before .before .before .before .skip .ensures) (c .before .before .before .before .before .before .before .before .before .next .given .1) (u .0) (u .1) (sym (c .before .before .before .before .before .before .before .act2 .ensures) ∙ c .before .before .before .before .before .before .if2 .left) (λ e. c .before .before .before .before .if3 .left (c .before .before .before .before .before .jump .ensures ∙ e)) (c .before .before .if4 .left))
+    let u = unread-so (c .before .before .before .before .before .before .before .before .before .before .before .before .before .before .before .before .before .args .told) (c .before .before .before .before .before .before .before .before .before .before .before .before .before .before .before .before .loop .t .node) _ _ (c .before .before .before .before .before .before .before .before .before .before .before .before .before .before .before .before .loop .inv .tidy .inside) (c .before .before .before .before .before .before .before .before .before .before .before .before .before .before .before .act .ensures) (c .before .before .before .before .before .before .before .before .before .before .before .before .before .before .rest .ensures) (sym (c .before .before .before .before .before .before .before .before .before .before .before .before .before .unread .ensures) ∙ not-false _ (c .before .before .before .before .before .before .before .before .before .before .before .before .if1 .left)) in
+    rw (c .before .before .before .before .back .ensures)
+    (drifts-again (c .before .before .before .before .before .before .before .before .before .before .before .before .before .before .before .before .loop .inv) (c .before .before .before .before .before .before .before .before .before .before .before .width .ensures) (c .before .before .before .before .before .before .before .before .before .before .skip .ensures) (c .before .before .before .before .before .before .before .before .next .given .1) (u .0) (u .1) (sym (c .before .before .before .before .before .before .act2 .ensures) ∙ c .before .before .before .before .before .if2 .left) (λ e. c .before .before .before .if3 .left (c .before .before .before .before .back .ensures ∙ e)) (c .before .if4 .left))
 
 -- where it stops
 
@@ -118,7 +116,7 @@ drift-spec =
     μ-loop
     loop-holds
     act-requires
-    code-requires
+    rest-requires
     unread-requires
     width-requires
     skip-requires
@@ -130,10 +128,8 @@ drift-spec =
     add-fields
     loop-less
     loop-again
-    add-jump
-    jump-requires
-    add-jump-2
-    jump-requires-2
+    add-back
+    back-requires
     add-t-2
     sub-t
     add-fields-2

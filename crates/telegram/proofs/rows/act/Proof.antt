@@ -11,8 +11,11 @@ mul-result c = search needs
 element-copy-out-result : tie.Need-element-copy-out-result
 element-copy-out-result c = search needs
 
+cast-result : tie.Need-cast-result
+cast-result c = search needs
+
 returns : tie.Need-returns
 returns c = rw (c .before .pre .table) (word-act (c .before .args .k) (c .before .pre .inside))
 
 pub act-spec : {M : Type 1} → statement M
-act-spec = tie.close (tie.spec mul-result element-copy-out-result returns)
+act-spec = tie.close (tie.spec mul-result element-copy-out-result cast-result returns)

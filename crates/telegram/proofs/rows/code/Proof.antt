@@ -1,18 +1,23 @@
--- `telegram::rows::code` meets its contract: the four bits of a row's word above the width are the code of its field's sense.
+-- `telegram::rows::code` meets its contract: the act and the rest of a row tell the code of its field's sense.
 -- Assumes nothing.
+use mathlib.Core.Path.{ap₂, _∙_}
 use borrow.Author.Needs.{needs}
-use Rattle.format.proofs.Rows.{word-code}
+use Rattle.format.specs.Table.{codeBy}
+use Rattle.format.proofs.Rows.{rest-code}
 use Rattle.telegram.proofs.rows.code.Statement.{statement}
 use Rattle.telegram.proofs.rows.code.Tie as tie
 
-mul-result : tie.Need-mul-result
-mul-result c = search needs
+act-requires : tie.Need-act-requires
+act-requires c κs = search needs
 
-element-copy-out-result : tie.Need-element-copy-out-result
-element-copy-out-result c = search needs
+rest-requires : tie.Need-rest-requires
+rest-requires c κs = search needs
+
+code-requires : tie.Need-code-requires
+code-requires c κs = search needs
 
 returns : tie.Need-returns
-returns c = rw (c .before .pre .table) (word-code (c .before .args .k) (c .before .pre .inside))
+returns c = c .code .ensures ∙ ap₂ codeBy (c .before .before .act .ensures) (c .before .rest .ensures) ∙ rest-code (c .before .before .before .args .k) (c .before .before .before .pre .inside)
 
 pub code-spec : {M : Type 1} → statement M
-code-spec = tie.close (tie.spec mul-result element-copy-out-result returns)
+code-spec = tie.close (tie.spec act-requires rest-requires code-requires returns)

@@ -1,25 +1,34 @@
--- `telegram::rows::jump` meets its contract: the highest eight bits of a row's word are its jump.
+-- `telegram::rows::jump` meets its contract: a field with a next only if it is 1 jumps over one row, and the rest of another says how far.
 -- Assumes nothing.
+use mathlib.Core.Path.{sym, _∙_}
 use native.Mathlib.Omega.{arith}
 use borrow.Author.Needs.{needs}
-use Rattle.format.proofs.Rows.{word-jump, jump-in}
+use Rattle.format.proofs.Rows.{if-jump, rest-ahead, rest-small}
 use Rattle.telegram.proofs.rows.jump.Statement.{statement}
 use Rattle.telegram.proofs.rows.jump.Tie as tie
 
-mul-result : tie.Need-mul-result
-mul-result c = search needs
+act-requires : tie.Need-act-requires
+act-requires c κs = c .pre .0
 
-element-copy-out-result : tie.Need-element-copy-out-result
-element-copy-out-result c = search needs
-
-cast-result : tie.Need-cast-result
-cast-result c =
-    let a = c .before in
-    let e = word-jump (a .args .k) (a .pre .inside) in
-    let l = jump-in (a .args .k) (a .pre .inside) in rw (a .pre .table) (omega arith)
+add-result : tie.Need-add-result
+add-result c = omega (arith, c .before .before .pre .0 .inside)
 
 returns : tie.Need-returns
-returns c = rw (c .before .pre .table) (word-jump (c .before .args .k) (c .before .pre .inside))
+returns c = let j = if-jump (c .before .before .args .k) (c .before .before .pre .0 .inside) (sym (c .before .act .ensures) ∙ c .if1 .taken) in omega arith
+
+rest-requires : tie.Need-rest-requires
+rest-requires c κs = c .before .before .pre .0
+
+cast-result : tie.Need-cast-result
+cast-result c = search needs
+
+add-result-2 : tie.Need-add-result-2
+add-result-2 c = omega (arith, c .before .before .before .pre .0 .inside, c .rest .ensures, rest-small (c .before .before .before .args .k) (c .before .before .before .pre .0 .inside))
+
+returns-2 : tie.Need-returns-2
+returns-2 c =
+    let n = c .before .if1 .left in
+    rw (c .rest .ensures) (rest-ahead (c .before .before .before .args .k) (c .before .before .before .pre .0 .inside) (omega (arith, c .before .before .before .pre .1, c .before .before .act .ensures)))
 
 pub jump-spec : {M : Type 1} → statement M
-jump-spec = tie.close (tie.spec mul-result element-copy-out-result cast-result returns)
+jump-spec = tie.close (tie.spec act-requires add-result returns rest-requires cast-result add-result-2 returns-2)
