@@ -1,10 +1,13 @@
--- Every Q_DIR is followed by an L_PACKET: a test that the checker computes over all rows. Assumes nothing.
-use mathlib.Core.Bool.{Bool, _&&_}
+-- Every packet begins with a Q_DIR, and every Q_DIR is followed by an L_PACKET: tests that the checker computes over all packets and rows.
+-- Assumes nothing.
+use mathlib.Core.Bool.{Bool, true, false, cond, _&&_}
+use mathlib.Core.List.{List, [], _∷_}
 use mathlib.Core.Path.{_≡_, refl}
 use Prim.Native.Nat.{ℕ, _+_, _<_}
 use borrow.Author.Tests.{eq-eqb}
-use lib.Dec.{eqb, eqb→eq}
-use Rattle.format.specs.Table.{Row, rows, rowAt, act, fieldAt, codeOf}
+use lib.Dec.{T, eqb, eqb→eq}
+use Rattle.format.specs.Packets.{etcs, ctcs}
+use Rattle.format.specs.Table.{Row, Start, rows, rowAt, act, fieldAt, codeOf, packetStarts, etcsFrom, ctcsFrom, startOf, etcsRow, ctcsRow}
 use Rattle.format.proofs.Rows.{imp, and-left, and-right, imp-use, row-law}
 
 -- the rows of a Q_DIR and of the L_PACKET behind it
@@ -34,3 +37,34 @@ head-rows k l e =
 pub between : codeOf (fieldAt 0 .sense) ≡ 7
 unfolding rowAt
 between = refl
+
+-- ---- every packet's first row is that of its Q_DIR
+
+abbrev directed : List Start → Bool
+directed [] = true
+directed (s ∷ ss) = eqb (codeOf (fieldAt (s .row) .sense)) 9 && directed ss
+
+module _ (v : ℕ) where
+  start-directs : (ss : List Start) → T (directed ss) → (startOf v ss ≡ 0 → ⊥) → codeOf (fieldAt (startOf v ss) .sense) ≡ 9
+  unfolding startOf
+  start-directs [] t n = absurd (n refl)
+  start-directs (s ∷ ss) t n = by-test (eqb v (s .id)) (start-directs ss (and-right (eqb (codeOf (fieldAt (s .row) .sense)) 9) (directed ss) t)) n
+    where
+      by-test : (b : Bool) → ((startOf v ss ≡ 0 → ⊥) → codeOf (fieldAt (startOf v ss) .sense) ≡ 9) → (cond b (s .row) (startOf v ss) ≡ 0 → ⊥)
+          → codeOf (fieldAt (cond b (s .row) (startOf v ss)) .sense) ≡ 9
+      by-test true ih m = eqb→eq (codeOf (fieldAt (s .row) .sense)) 9 (and-left (eqb (codeOf (fieldAt (s .row) .sense)) 9) (directed ss) t)
+      by-test false ih m = ih m
+
+  pub etcs-directs : (etcsRow v ≡ 0 → ⊥) → codeOf (fieldAt (etcsRow v) .sense) ≡ 9
+  unfolding etcsRow rowAt
+  etcs-directs = start-directs (packetStarts etcsFrom etcs) tt
+
+  pub ctcs-directs : (ctcsRow v ≡ 0 → ⊥) → codeOf (fieldAt (ctcsRow v) .sense) ≡ 9
+  unfolding ctcsRow rowAt
+  ctcs-directs = start-directs (packetStarts ctcsFrom ctcs) tt
+
+-- ---- the row in which a CTCS packet is due is that of ETCS-44
+
+pub carrier : (k : ℕ) → k ≡ 87 → act k ≡ 1
+unfolding rowAt
+carrier k e = rw e

@@ -3,9 +3,7 @@
 ghost use mathlib.Core.Path.{_≡_};
 ghost use Rattle.format.specs.Table.{words};
 ghost use Rattle.states.specs.Heads.{Started, Headed, Inward, Led};
-ghost use Rattle.states.specs.Machine.{InTable};
 use crate::rows::act;
-use crate::rows::code;
 use bits::Cursor;
 use bits::Skipped;
 use bits::Taken;
@@ -14,10 +12,11 @@ use states::Begun;
 use states::Level;
 use states::State;
 use states::Todo;
-use states::codes::DIRECTION;
 use states::codes::END;
-use states::codes::NEST;
 use states::collides_in_bits;
+
+// The row of an ETCS-44 in which its CTCS packet is due: no other packet has one.
+const CARRIER: usize = 87;
 
 // The header, if it keeps every rule. Its first three fields are 1, 16 and 0, which is 288 in nine bits.
 pub(crate) fn header(s: &[u8], n: usize) -> Begun
@@ -61,21 +60,21 @@ pub(crate) fn header(s: &[u8], n: usize) -> Begun
 
 // The head that is due, if one is: of a packet, or of the CTCS packet inside one.
 pub(crate) fn leading(rows: &[u16; 213], s: &[u8], n: usize, st: State) -> Begun
-    requires { ⌜ InTable (now rows) (st .todo .node) ⌝ }
+    requires { ⌜ now rows ≡ words ⌝ }
     ensures { λ r. ⌜ Led (now (s .entry)) n st r ⌝ }
 {
     let t = st.todo;
     if t.node == 0 {
         return head(rows, s, n, st);
     }
-    if act(rows, t.node) == NEST {
+    if t.node == CARRIER {
         return inner(rows, s, n, st);
     }
     Begun::Not
 }
 
-// The head of the packet that begins here, if it keeps every rule, its packet collides with none before it, and a field follows it. Row 0, which
-// stands for no packet, has no Q_DIR.
+// The head of the packet that begins here, if it keeps every rule, its packet collides with none before it, and a field follows it. Row 0 stands for
+// no packet.
 fn head(rows: &[u16; 213], s: &[u8], n: usize, st: State) -> Begun
     requires { ⌜ now rows ≡ words ⌝ }
     ensures { λ r. ⌜ Headed (now (s .entry)) n st r ⌝ }
@@ -88,7 +87,7 @@ fn head(rows: &[u16; 213], s: &[u8], n: usize, st: State) -> Begun
     let dir = a / 8192 % 4;
     let p = packets::etcs(id);
     let row = p.row;
-    if code(rows, row) != DIRECTION {
+    if row == 0 {
         return Begun::Not;
     }
     if act(rows, row + 2) == END {
@@ -132,7 +131,7 @@ fn inner(rows: &[u16; 213], s: &[u8], n: usize, st: State) -> Begun
     let dir = a / 8192 % 4;
     let p = packets::ctcs(id);
     let row = p.row;
-    if code(rows, row) != DIRECTION {
+    if row == 0 {
         return Begun::Not;
     }
     if act(rows, row + 2) == END {

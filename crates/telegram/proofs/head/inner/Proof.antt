@@ -1,10 +1,12 @@
 -- `telegram::head::inner` meets its contract. Assumes nothing.
-use mathlib.Core.Path.{sym, ap, _∙_, subst}
+use mathlib.Core.Path.{_≡_, sym, ap, _∙_, subst}
 use Prim.Native.Nat.{ℕ, _+_, _<_}
 use native.Mathlib.Omega.{arith}
 use borrow.Author.Needs.{needs}
 use Rattle.bits.specs.declared.Taken.the-variants.{Field}
 use Rattle.bits.proofs.Fields.{taken}
+use Rattle.format.specs.Table.{fieldAt, codeOf}
+use Rattle.format.proofs.Heads.{ctcs-directs}
 use Rattle.format.proofs.Rows.{ctcs-in}
 use Rattle.states.proofs.Heading.{head-inside}
 use Rattle.states.proofs.Senses.{ctcs-row}
@@ -26,25 +28,25 @@ returns c = search needs
 ctcs-requires : tie.Need-ctcs-requires
 ctcs-requires c κs = search needs
 
--- the row that is told is the packet's, and is in the table
-in-table : (c : tie.After-ctcs) → c .ctcs .result .row < 213
-in-table c = subst (λ (k : ℕ). k < 213) (ctcs-row _ (c .ctcs .result) (c .ctcs .ensures)) (ctcs-in _)
-
-code-requires : tie.Need-code-requires
-code-requires c κs = record { table = c .before .before .before .before .before .before .pre; inside = in-table c }
-
 returns-2 : tie.Need-returns-2
 returns-2 c = search needs
 
--- it is a Q_DIR's
-directs : (c : tie.Else1) → c .before .before .ctcs .result .row + 2 < 213
-directs c = head-inside (c .before .before .ctcs .result .row) (in-table (c .before .before)) (sym (c .before .code .ensures) ∙ c .if1 .left)
+-- the row that is told is the packet's, and that of its Q_DIR
+directs : (c : tie.Else1) → codeOf (fieldAt (c .before .ctcs .result .row) .sense) ≡ 9
+directs c =
+    let k = ctcs-row _ (c .before .ctcs .result) (c .before .ctcs .ensures) in
+    rw k at (ctcs-directs _ (λ e. c .if1 .left (sym k ∙ e)))
+
+-- so the rows of the head are in the table
+in-table : (c : tie.Else1) → c .before .ctcs .result .row + 2 < 213
+in-table c =
+    head-inside (c .before .ctcs .result .row) (subst (λ (k : ℕ). k < 213) (ctcs-row _ (c .before .ctcs .result) (c .before .ctcs .ensures)) (ctcs-in _)) (directs c)
 
 add-act : tie.Need-add-act
-add-act c = omega (arith, directs c)
+add-act c = omega (arith, in-table c)
 
 act-requires : tie.Need-act-requires
-act-requires c κs = record { table = c .before .before .before .before .before .before .before .before .pre; inside = directs c }
+act-requires c κs = record { table = c .before .before .before .before .before .before .before .pre; inside = in-table c }
 
 returns-3 : tie.Need-returns-3
 returns-3 c = search needs
@@ -56,16 +58,16 @@ returns-5 : tie.Need-returns-5
 returns-5 c = search needs
 
 add-t17 : tie.Need-add-t17
-add-t17 c = omega (arith, directs (c .before .before .before .before .before))
+add-t17 c = omega (arith, in-table (c .before .before .before .before .before))
 
 returns-6 : tie.Need-returns-6
 returns-6 c =
-    let f = taken _ _ _ _ _ _ (sym (c .before .before .before .before .before .before .before .before .before .before .before .take .ensures) ∙ c .before .before .before .before .before .before .before .before .before .a .given .1) in
-    let k = ctcs-row _ (c .before .before .before .before .before .before .before .ctcs .result) (c .before .before .before .before .before .before .before .ctcs .ensures) in
+    let f = taken _ _ _ _ _ _ (sym (c .before .before .before .before .before .before .before .before .before .before .take .ensures) ∙ c .before .before .before .before .before .before .before .before .a .given .1) in
+    let k = ctcs-row _ (c .before .before .before .before .before .before .ctcs .result) (c .before .before .before .before .before .before .ctcs .ensures) in
     record {
-      bits = c .before .before .before .before .before .before .before .before .before .a .given .0 .0;
-      field = sym (c .before .before .before .before .before .before .before .before .before .before .before .take .ensures) ∙ c .before .before .before .before .before .before .before .before .before .a .given .1 ∙ ap (λ (x : ℕ). Field (c .before .before .before .before .before .before .before .before .before .a .given .0 .0) (record { at = x })) (f .past);
-      known = rw k (sym (c .before .before .before .before .before .before .code .ensures) ∙ c .before .before .before .before .before .if1 .left);
+      bits = c .before .before .before .before .before .before .before .before .a .given .0 .0;
+      field = sym (c .before .before .before .before .before .before .before .before .before .before .take .ensures) ∙ c .before .before .before .before .before .before .before .before .a .given .1 ∙ ap (λ (x : ℕ). Field (c .before .before .before .before .before .before .before .before .a .given .0 .0) (record { at = x })) (f .past);
+      known = rw k (directs (c .before .before .before .before .before));
       more = λ e. c .before .before .before .if2 .left (c .before .before .before .before .act .ensures ∙ rw (← k) e);
       allowed = c .before .before .if3 .left;
       alike = c .if4 .left;
@@ -81,7 +83,6 @@ inner-spec =
     enum-told
     returns
     ctcs-requires
-    code-requires
     returns-2
     add-act
     act-requires

@@ -36,9 +36,7 @@ add-count c =
 -- a head
 
 leading-requires : tie.Need-leading-requires Inv-loop μ-loop
-leading-requires c κs =
-    let i = scans-drifted (c .before .before .before .before .loop .inv) (c .before .before .before .drift .ensures) in
-    record { table = i .drives .table; inside = i .drives .sound .tidy .inside }
+leading-requires c κs = c .before .before .before .before .loop .inv .drives .table
 
 enum-known-after : tie.Need-enum-known-after Inv-loop μ-loop
 enum-known-after c = search needs
