@@ -1,7 +1,7 @@
 // The numbers of the table: what stands in a row, and the codes of fields.
 
-// What stands in a row: the end of a group or a packet, the packet inside one, a field, a
-// field that the next one is sent only behind if it is 1, and a field that says how often a group is sent.
+// What stands in a row: the end of a group or a packet, the packet inside one, a field, a field behind which the next is sent only if it is 1,
+// and a field that says how often a group is sent.
 pub const END: u32 = 0;
 
 pub const NEST: u32 = 1;
@@ -13,8 +13,6 @@ pub const IF: u32 = 3;
 pub const TIMES: u32 = 5;
 
 // The codes of fields. Below SIZE a value may be anything and nothing is kept of it.
-pub const ANY: u32 = 0;
-
 pub const DISTANCE: u32 = 1;
 
 pub const TEXT: u32 = 2;
