@@ -178,8 +178,8 @@ lowOf f = lowIn (ruleOf (f .sense))
 abbrev pub highOf : Field → ℕ
 highOf f = highIn (ruleOf (f .sense))
 
--- the number of a sense: of a field that is free its code; of a range 16 and its high end if it begins at 0, 48 and its high end if it begins
--- at 1, and 62 else; of the scale 32 and its high end; of any other 52 and its code
+-- the number of a sense: of a field that is free its code; of a range that begins at 0, 16 and its high end; of the scale 32 and its high end;
+-- of a range that begins at 1, 48 and its high end; of any other 52 and its code
 abbrev rangeNumber : ℕ → ℕ → ℕ
 rangeNumber zero b = 16 + b
 rangeNumber (suc zero) b = 48 + b
