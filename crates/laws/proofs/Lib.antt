@@ -35,6 +35,7 @@ pub mod Pairs
 pub mod Awaited
 pub mod Recalled
 pub mod Whole
+pub mod Stays
 pub mod Stages
 pub mod Collided
 pub mod Apart

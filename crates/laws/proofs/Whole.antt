@@ -1,15 +1,15 @@
 -- Packets stand whole among the entries that were sent: the header, packets that are each as long as they say, and the packet in hand.
 -- Definitions, and what one field more makes of them. Assumes nothing.
-use mathlib.Core.List.{List, [], _∷_, _++_, append-assoc}
+use mathlib.Core.List.{List, [], _∷_, _++_}
 use mathlib.Core.Option.{some}
-use mathlib.Core.Path.{_≡_, refl, sym, ap, _∙_}
+use mathlib.Core.Path.{_≡_}
 use Prim.Native.Nat.{ℕ, zero, suc, _+_, _<_}
 use lib.Dec.{T}
 use lib.ListN.{length}
 use Rattle.format.specs.Fields.{NID-PACKET, Q-DIR, L-PACKET}
 use Rattle.format.specs.Packets.{Items}
 use Rattle.format.specs.Packets.Items.{end, nest, send, sendIf, sendEither, sendTimes}
-use Rattle.format.specs.Rules.{State, Context, Earlier, named, next}
+use Rattle.format.specs.Rules.{State, Earlier, named, next}
 use Rattle.format.specs.Rules.Level.{inHeader, inPacket}
 use Rattle.format.specs.Telegrams.{Entry, bitCount, values}
 use Rattle.laws.proofs.Steps.{going}

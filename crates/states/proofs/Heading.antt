@@ -1,15 +1,12 @@
 -- A packet's head, taken at once, and that of the CTCS packet inside one: the definition takes NID_PACKET or NID_XUSER, Q_DIR and L_PACKET one
 -- after the other, and comes to the same state. Assumes nothing.
-use mathlib.Core.Bool.{true, false}
+use mathlib.Core.Bool.{false}
 use mathlib.Core.List.{List}
 use mathlib.Core.Logic.{⊎-elim, inl, inr}
 use mathlib.Core.Path.{_≡_, refl, sym, ap, _∙_, subst}
 use Prim.Native.Nat.{ℕ, _+_, _-_, _<_}
 use native.Mathlib.Nat.{add-zero}
 use native.Mathlib.Omega.{arith}
-use borrow.Author.Tests.{eq-eqb, ne-eqb, eqb-true}
-use lib.Dec.{eqb}
-use lib.ListN.{length}
 use Rattle.bits.specs.Take.{takeAt}
 use Rattle.bits.specs.declared.Cursor.{Cursor}
 use Rattle.bits.specs.declared.Taken.the-variants.{Field}
@@ -20,7 +17,7 @@ use Rattle.format.specs.Kinds.{etcsStart, ctcsStart}
 use Rattle.format.proofs.Heads.{HeadRows, head-rows, between}
 use Rattle.format.proofs.Rows.{next-in, etcs-in, ctcs-in, none-act, nest-field, packet-width, direction-width, size-width}
 use Rattle.states.specs.Heads.{opened, Opened, Headed, nested, Nested, Inward, Led}
-use Rattle.states.specs.Machine.{reached, contextOf, Advanced, Noted, Sound, Judged, Entered, Directing}
+use Rattle.states.specs.Machine.{reached, contextOf, Advanced, Noted, Sound, Judged, Entered}
 use Rattle.states.specs.Lookback.{idIn, dirIn, longIn}
 use Rattle.states.specs.declared.Begun.{Begun}
 use Rattle.states.specs.declared.Outcome.the-variants.{Go}
@@ -33,7 +30,7 @@ use Rattle.states.proofs.Advancing.{advances-to, advances-inside, advan
 use Rattle.states.proofs.Directions.{Passed, directs-not, directs-elsewhere, not-user, passes}
 use Rattle.states.proofs.LookedBack.{looks-back}
 use Rattle.states.proofs.Noting.{inPacket, inUser, withDir, packet-opens, user-opens, dir-packet, dir-user, long-packet, long-user}
-use Rattle.states.proofs.Scanning.{Scans, scans-on, scans-fine, fits}
+use Rattle.states.proofs.Scanning.{Scans, scans-on, scans-fine}
 use Rattle.states.proofs.Senses.{rule-direction, judge-free, judge-packet, judge-user, judge-direction, packet-some, user-some, direction-once, direction-same}
 use Rattle.states.proofs.Stepping.{settled-goes, entered-on, stepped-goes}
 use Rattle.format.specs.Fields as fields

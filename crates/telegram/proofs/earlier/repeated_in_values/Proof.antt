@@ -1,5 +1,4 @@
 -- `telegram::earlier::repeated_in_values` meets its contract: at a packet's Q_DIR the packets before are looked at; elsewhere nothing asks. Assumes nothing.
-use borrow.Author.Needs.{needs}
 use borrow.Author.Tests.{not-true}
 use Rattle.telegram.proofs.earlier.repeated_in_values.Statement.{statement}
 use Rattle.telegram.proofs.earlier.repeated_in_values.Tie as tie

@@ -1,6 +1,5 @@
 -- `telegram::reader::scan` meets its contract: the loop goes on from behind the header, or from its first field. Assumes nothing.
 use mathlib.Core.Logic.{⊎-elim}
-use mathlib.Core.Path.{refl}
 use borrow.Author.Needs.{needs}
 use Rattle.states.proofs.Fronting.{scans-fronted}
 use Rattle.states.proofs.Scanning.{scans-first, scans-here}

@@ -1,7 +1,6 @@
 -- `telegram::todo::follow` meets its contract: a field that steers and is 1 is followed by the next row, any other by row jump.
 -- Assumes nothing.
 use native.Mathlib.Omega.{arith}
-use borrow.Author.Needs.{needs}
 use Rattle.states.proofs.Moves.{follows-next, follows-jump}
 use Rattle.telegram.proofs.todo.follow.Statement.{statement}
 use Rattle.telegram.proofs.todo.follow.Tie as tie

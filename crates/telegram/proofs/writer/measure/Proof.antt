@@ -1,7 +1,7 @@
 -- `telegram::writer::measure` meets its contract. The loop's invariant, `Measures`: what the definition answers from the start is what it
 -- answers from here, after the entries so far. The measure is how many values are left. Assumes nothing.
 use mathlib.Core.List.{[]}
-use mathlib.Core.Path.{refl, sym, ap, _∙_}
+use mathlib.Core.Path.{sym, ap, _∙_}
 use Prim.Native.Nat.{_-_}
 use native.Mathlib.Omega.{arith}
 use borrow.Author.Needs.{needs}
