@@ -4,7 +4,6 @@ ghost use Rattle.format.specs.Table.{words};
 ghost use Rattle.states.specs.Machine.{Tidy, Drifted, Eased};
 use crate::rows::act;
 use crate::rows::back;
-use crate::rows::code;
 use crate::rows::rest;
 use crate::rows::width;
 use crate::todo::moved;
