@@ -39,12 +39,12 @@ pub record Recalls (es : List Entry) (c : Context) : Type 0 where
 
 module _ (collide : ℕ → ℕ → Bool) (i d : ℕ) where
   -- among no packets, none is met
-  among-none : among collide i d [] ≡ false
+  pub among-none : among collide i d [] ≡ false
   unfolding among
   among-none = refl
 
   -- among one packet more, it is met or one of the others is
-  among-more : (n v : ℕ) (l : List Earlier)
+  pub among-more : (n v : ℕ) (l : List Earlier)
       → among collide i d (record { id = n; dir = v } ∷ l) ≡ (eqb i n && collide d v || among collide i d l)
   unfolding among
   among-more n v l = refl

@@ -6,7 +6,6 @@ use mathlib.Core.Path.{_≡_, refl, sym, ap, _∙_, subst}
 use Prim.Native.Nat.{ℕ, _+_, _-_, _<_}
 use native.Mathlib.Omega.{arith}
 use lib.Dec.{T, eqb}
-use lib.ListN.{length, length-append}
 use Rattle.format.specs.Fields.{Field, NID-PACKET, Q-DIR, L-PACKET}
 use Rattle.format.specs.Fields.Rule.{packet, direction, size, pig}
 use Rattle.format.specs.Packets.{Items, header}
@@ -14,12 +13,11 @@ use Rattle.format.specs.Packets.Items.{end, nest, send, sendIf, sendEither, sen
 use Rattle.format.specs.Rules.{State, Context, context, Terms, Earlier, Level, Next, begun, step, field, named, past, next, moved, ruleOf, noted, closes, fresh}
 use Rattle.format.specs.Rules.Level.{inHeader, inPacket, inUser}
 use Rattle.format.specs.Rules.Next.{go}
-use Rattle.format.specs.Telegrams.{Entry, entry, bitCount, values, valuesIn, Fits}
-use Rattle.laws.proofs.Round.{all-append}
+use Rattle.format.specs.Telegrams.{Entry, entry, bitCount, Fits}
 use Rattle.laws.proofs.Steps.{going, going-on, Stepped, stepped}
 use Rattle.laws.proofs.Steps.Settled.{on, closed, misfitted}
 use Rattle.laws.proofs.Steps.Stepped.{forbidden, marked, noticed}
-use Rattle.laws.proofs.Tile.{bitCount-append, sent-next, header-plain}
+use Rattle.laws.proofs.Tile.{bitCount-append, bits-more, values-more, sent-next, header-plain}
 use Rattle.laws.proofs.Points.{Sends, holding}
 use Rattle.laws.proofs.Points.Sends.{nothing, one-more}
 use Rattle.laws.proofs.Headed.{Headed, InHeader, every-due, withHead, outerBody, packet-headed}
@@ -39,14 +37,6 @@ use Rattle.laws.proofs.Whole.Whole.{front, then}
 use Rattle.laws.proofs.Whole.Stage.{fronting, resting, after-name, after-dir, after-size}
 
 -- ---- one field more
-
--- the value of a field and of those before
-values-one : (es : List Entry) (e : Entry) → length (values (es ++ (e ∷ []))) ≡ length (values es) + 1
-unfolding valuesIn
-values-one es e = rw (all-append valuesIn es (e ∷ []), length-append (values es) (e .value ∷ []))
-
-bits-one : (es : List Entry) (e : Entry) → bitCount (es ++ (e ∷ [])) ≡ bitCount es + e .field .width
-bits-one es e = omega (arith, bitCount-append es (e ∷ []))
 
 -- entries that end in an entry of another field
 not-named : (es : List Entry) (e : Entry) → (e .field ≡ NID-PACKET → ⊥) → (b : List Entry) (n : ℕ) → es ++ (e ∷ []) ≡ b ++ (holding NID-PACKET n ∷ []) → ⊥
@@ -78,8 +68,8 @@ module _ (p : Terms) (es : List Entry) (s : State) (v : ℕ) (a : s .at ≡ bitC
       rw eu
       (record {
         plain = h .plain .1;
-        bits = omega (arith, bits-one es (entry s v), h .bits);
-        fields = omega (arith, values-one es (entry s v), h .fields);
+        bits = omega (arith, bits-more es (entry s v), h .bits);
+        fields = omega (arith, values-more es (entry s v), h .fields);
       })
   front-more nest u i g h j = absurd (h .plain)
   front-more (sendIf c x r) u i g h j = absurd (h .plain)

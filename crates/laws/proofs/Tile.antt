@@ -6,16 +6,16 @@ use mathlib.Core.Path.{_≡_, refl, sym, ap, _∙_}
 use Prim.Native.Nat.{ℕ, _+_}
 use native.Mathlib.Omega.{arith}
 use lib.Dec.{eqb}
-use lib.ListN.{length}
+use lib.ListN.{length, length-append}
 use Rattle.format.specs.Fields.{Field, NID-PACKET, END}
 use Rattle.format.specs.Packets.{Items, header}
 use Rattle.format.specs.Packets.Items.{end, nest, send, sendIf, sendEither, sendTimes}
 use Rattle.format.specs.Rules.{State, Terms, begun, step, due, named, next}
 use Rattle.format.specs.Rules.Next.{over}
-use Rattle.format.specs.Telegrams.{Entry, entry, bits, bitCount, begins, Divided, before, divided, Run, Telegram}
+use Rattle.format.specs.Telegrams.{Entry, entry, bits, bitCount, values, valuesIn, begins, Divided, before, divided, Run, Telegram}
 use Rattle.format.specs.Telegrams.Run.{last, more}
 use Rattle.laws.proofs.Sources.{width-named}
-use Rattle.laws.proofs.Round.{beforeMark}
+use Rattle.laws.proofs.Round.{beforeMark, all-append}
 use Rattle.laws.proofs.Demand2.{length-bits}
 use Rattle.laws.proofs.Steps.{go-next, over-mark}
 
@@ -48,6 +48,14 @@ divided-joined (e ∷ es) = by-test (begins e) (divided es) (divided-joined es)
 pub bitCount-append : (es fs : List Entry) → bitCount (es ++ fs) ≡ bitCount es + bitCount fs
 bitCount-append [] fs = omega arith
 bitCount-append (e ∷ es) fs = let h = bitCount-append es fs in omega arith
+
+-- one entry more
+pub bits-more : (es : List Entry) (e : Entry) → bitCount (es ++ (e ∷ [])) ≡ bitCount es + e .field .width
+bits-more es e = omega (arith, bitCount-append es (e ∷ []))
+
+pub values-more : (es : List Entry) (e : Entry) → length (values (es ++ (e ∷ []))) ≡ length (values es) + 1
+unfolding valuesIn
+values-more es e = rw (all-append valuesIn es (e ∷ []), length-append (values es) (e .value ∷ []))
 
 bitCount-joined : (ps : List (List Entry)) → bitCount (joined ps) ≡ bitCounts ps
 bitCount-joined [] = refl

@@ -4,11 +4,11 @@ use mathlib.Core.Path.{_≡_, refl, sym, ap, _∙_, subst}
 use mathlib.Core.List.{List, [], _∷_, _++_}
 use Prim.Native.Nat.{ℕ, _+_, _≤_, _<_}
 use native.Mathlib.Omega.{arith}
-use lib.ListN.{length, length-append}
+use lib.ListN.{length}
 use Rattle.format.specs.Rules.{Earlier, begun, step, due, past, moved, paper, spotOf, spotAt, placeFrom, fieldPlace}
 use Rattle.format.specs.Rules.Next.{over, breaks}
 use Rattle.format.specs.Table.{fieldAt, words}
-use Rattle.format.specs.Telegrams.{Entry, entry, all, values, valuesIn, bitCount, Taken, Driven, Result, refusal, push, drive, whole}
+use Rattle.format.specs.Telegrams.{Entry, entry, all, values, bitCount, Taken, Driven, Result, refusal, push, drive, whole}
 use Rattle.format.specs.Telegrams.Taken.{got, lacks}
 use Rattle.format.specs.Telegrams.Driven.{ended, stopped}
 use Rattle.format.specs.Telegrams.Result.{accepted, refused}
@@ -20,9 +20,8 @@ use Rattle.laws.proofs.Sources.{Source, width-named}
 use Rattle.laws.proofs.Points.{Sends}
 use Rattle.laws.proofs.Points.Sends.{nothing, one-more}
 use Rattle.laws.proofs.Pointed.{one-front, sends-at}
-use Rattle.laws.proofs.Round.{all-append}
 use Rattle.laws.proofs.Steps.{over-mark}
-use Rattle.laws.proofs.Tile.{bitCount-append}
+use Rattle.laws.proofs.Tile.{bits-more, values-more}
 use Rattle.laws.proofs.Turns.{pushes, pushes-ended, pushes-stopped, pushes-one, one-mark, one-broken, one-lacking, one-field-bounds}
 use Rattle.states.specs.Machine.{todoOf, contextOf, view, nextOf, earlierAfter, Sound, Beginning}
 use Rattle.states.specs.declared.State.{State}
@@ -50,15 +49,6 @@ same-place k st end l = spot-same (spotOf k end (contextOf [] st)) st (st .at) e
 -- packets begin low enough for the places of their fields to be numbers of the machine
 pub starts-low : {st : State} → Sound st → st .at ≤ 830 → (st .start ≤ 65536) × (st .userstart ≤ 65536)
 starts-low s l = (omega (arith, s .first), omega (arith, s .second))
-
--- ---- one entry more
-
-pub values-more : (es : List Entry) (e : Entry) → length (values (es ++ (e ∷ []))) ≡ length (values es) + 1
-unfolding valuesIn
-values-more es e = rw (all-append valuesIn es (e ∷ []), length-append (values es) (e .value ∷ []))
-
-pub bits-more : (es : List Entry) (e : Entry) → bitCount (es ++ (e ∷ [])) ≡ bitCount es + e .field .width
-bits-more es e = omega (arith, bitCount-append es (e ∷ []))
 
 module _ (source : rules.State → List ℕ → Taken) (part : Entry → List ℕ) (Good : rules.State → List ℕ → Type 0)
     (law : Source source part Good) where

@@ -15,6 +15,7 @@ use Rattle.bits.specs.declared.Taken.the-variants.{Field, Short}
 use Rattle.bits.specs.declared.Skipped.the-variants.{To, Lacking}
 use Rattle.bits.proofs.Fields.{IsField, taken, take-past, skip-whole, skipped}
 use Rattle.format.specs.Rules.{Earlier, clash, among, collidesAmong}
+use Rattle.laws.proofs.Recalled.{among-none, among-more}
 use Rattle.states.specs.Lookback.{packetsBefore, idIn, dirIn, longIn, hopped}
 
 -- whether a packet collides, where it is no ETCS-44
@@ -23,17 +24,6 @@ told i d l b n e = simp (ne-eqb i 44 n, e)
 
 pub none-told : (i d : ℕ) (l : List Earlier) → i ≡ 44 → false ≡ collidesAmong clash i d l
 none-told i d l e = simp (eq-eqb i 44 e)
-
--- among no packets
-pub among-none : (collide : ℕ → ℕ → Bool) (i d : ℕ) → among collide i d [] ≡ false
-unfolding among
-among-none collide i d = refl
-
--- among one more
-pub among-more : (collide : ℕ → ℕ → Bool) (i d : ℕ) (e : Earlier) (l : List Earlier)
-    → among collide i d (e ∷ l) ≡ (eqb i (e .id) && collide d (e .dir) || among collide i d l)
-unfolding among
-among-more collide i d e l = refl
 
 -- among packets, and then others
 among-append : (collide : ℕ → ℕ → Bool) (i d : ℕ) (l m : List Earlier)
@@ -113,7 +103,7 @@ module _ {s : List ℕ} {stop id dir at : ℕ} (h : Hopping s stop id dir at) {t
         h .same
         ∙ ap (λ (k : ℕ). among clash id dir (hopped k s stop at)) fewer
         ∙ ap (among clash id dir) (hopped-head (h .left - 1) s stop at a body (sym et ∙ e))
-        ∙ among-more clash id dir (record { id = idIn a; dir = dirIn a }) (hopped (h .left - 1) s stop next)
+        ∙ among-more clash id dir (idIn a) (dirIn a) (hopped (h .left - 1) s stop next)
 
     -- it collides with this one
     pub hops-met : hit ≡ true → among clash id dir (packetsBefore s stop) ≡ true

@@ -17,6 +17,7 @@ use Rattle.format.specs.Rules.{Earlier, next, ruleOf, clash, among, collidesAmo
 use Rattle.format.specs.Table.{act, rowAt}
 use Rattle.format.specs.Telegrams.{Entry, values, valuesIn}
 use Rattle.laws.proofs.Points.{holding}
+use Rattle.laws.proofs.Recalled.{among-none, among-more}
 use Rattle.laws.proofs.Round.{all-append}
 use Rattle.laws.proofs.Stages.{sends-directs}
 use Rattle.laws.proofs.Steps.{going}
@@ -32,7 +33,7 @@ use Rattle.states.specs.declared.Todo.{Todo}
 use Rattle.states.specs.declared.Ahead.{Ahead}
 use Rattle.states.specs.declared.Ahead.the-variants.{On, Mark}
 use Rattle.states.proofs.Directions.{Passed, passes}
-use Rattle.states.proofs.Hopping.{among-none, among-more, among-reverse}
+use Rattle.states.proofs.Hopping.{among-reverse}
 use Rattle.states.proofs.Measuring.{Measures, field-is}
 use Rattle.states.proofs.Moves.{none-left, todo-begins, todo-begins-not}
 use Rattle.format.specs.Fields as fields
@@ -182,7 +183,7 @@ module _ {vs : List ℕ} {n id dir : ℕ} {t : Todo} {i : ℕ} (w : Walking vs n
     hit = begins (todoOf t) && (eqb id v && clash dir following)
 
     hits : (b : Bool) (rest : List ℕ) (l : List Earlier) → among clash id dir (withPacket b v (following ∷ rest) l) ≡ (b && (eqb id v && clash dir following) || among clash id dir l)
-    hits true rest l = among-more clash id dir (record { id = v; dir = following }) l
+    hits true rest l = among-more clash id dir v following l
     hits false rest l = refl
 
     one-walked : among clash id dir (packetsAmong vs n) ≡ (hit || among clash id dir (walked (drop (i + 1) (take n vs)) (next (todoOf t) v)))
