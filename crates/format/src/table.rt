@@ -4,7 +4,7 @@ ghost use Rattle.format.specs.Table.{words, codeBy, freeBy, lowBy, highB
 
 // From the lowest bit: 3 bits of the act, 7 of the field's width and 6 of the rest: the number of the field's rule, or how far the row
 // jumps. Nobody has to read them: the checker computes that they are what the items of the packets give. Whoever checks a telegram has this
-// table on the stack, so the numbers are as narrow as they can be.
+// table on the stack, so the numbers are narrow.
 const ROWS: [u16; 213] = [
     64, // 0: end
     50186, // 1: Q_UPDOWN

@@ -1,23 +1,22 @@
--- The Q_DIR of packets: when one is due, what is noted of it, and a step that is told whether it collides. Assumes nothing.
-use mathlib.Core.Path.{_≡_, refl, ap, _∙_}
+-- The Q_DIR of packets: when one is due, and a step that is told whether its packet collides. Assumes nothing.
+use mathlib.Core.Path.{_≡_, refl, sym, _∙_}
 use mathlib.Core.Bool.{Bool, true, false}
-use mathlib.Core.List.{List, _∷_}
-use Prim.Native.Nat.{ℕ, _+_, _<_}
+use mathlib.Core.List.{List}
+use Prim.Native.Nat.{ℕ, _+_}
 use native.Mathlib.Omega.{arith}
+use borrow.Author.Tests.{eq-eqb, ne-eqb}
 use Rattle.format.specs.Fields.{Sense}
 use Rattle.format.specs.Fields.Rule.{any, packet, user, direction, size, pig, total, radio, within}
 use Rattle.format.specs.Fields.Sense.{plain, scale, distance, textLength}
-use Rattle.format.specs.Rules.{Earlier, Context, ruleOf, noted, step, clash, collidesBy, paper}
-use Rattle.format.specs.Rules.Level.{inPacket}
+use Rattle.format.specs.Rules.{Earlier, ruleOf, step, clash, collidesAmong, collidesBy, paper}
 use Rattle.format.specs.Table.{fieldAt, codeOf}
-use Rattle.format.proofs.Rows.{direction-width}
-use Rattle.laws.proofs.Noted.{direction-in-packet, kept}
-use Rattle.states.specs.Machine.{contextOf, levelOf, view, nextOf, ruleAt, earlierAfter, Kept, Directing, Stepped}
+use Rattle.laws.proofs.Noted.{kept}
+use Rattle.states.specs.Lookback.{isPacket, directs, repeats}
+use Rattle.states.specs.Machine.{contextOf, view, nextOf, ruleAt, earlierAfter, Kept, Stepped}
 use Rattle.states.specs.declared.Level.{Level}
-use Rattle.states.specs.declared.Level.the-variants.{Header, Packet, User}
+use Rattle.states.specs.declared.Level.the-variants.{Packet, User}
 use Rattle.states.specs.declared.State.{State}
 use Rattle.states.specs.declared.Outcome.{Outcome}
-use Rattle.states.proofs.Senses.{rule-direction}
 
 -- ---- when a packet's Q_DIR is due
 
@@ -36,53 +35,42 @@ rule-code scale e = let z : _≡_ {A = ℕ} 0 1 = cc in absurd (omega arith)
 rule-code distance e = let z : _≡_ {A = ℕ} 0 1 = cc in absurd (omega arith)
 rule-code textLength e = let z : _≡_ {A = ℕ} 0 1 = cc in absurd (omega arith)
 
+-- no packet's Q_DIR is due
+abbrev pub Away : State → Type 0
+Away s = ruleAt (s .todo .node) ≡ direction → s .level ≡ Packet → ⊥
+
 module _ (s : State) where
-  pub directs-not : (codeOf (fieldAt (s .todo .node) .sense) ≡ 9 → ⊥) → Directing s false
-  directs-not n = record {
-    yes = λ e. let z : _≡_ {A = ℕ} 0 1 = cc in absurd (omega arith);
-    no = λ e r l. n (rule-code (fieldAt (s .todo .node) .sense) r);
-  }
+  pub away-not : (codeOf (fieldAt (s .todo .node) .sense) ≡ 9 → ⊥) → Away s
+  away-not n r l = n (rule-code (fieldAt (s .todo .node) .sense) r)
 
-  pub directs-elsewhere : (s .level ≡ Packet → ⊥) → Directing s false
-  directs-elsewhere n = record {
-    yes = λ e. let z : _≡_ {A = ℕ} 0 1 = cc in absurd (omega arith);
-    no = λ e r l. n l;
-  }
+  pub away-elsewhere : (s .level ≡ Packet → ⊥) → Away s
+  away-elsewhere n r l = n l
 
-  pub directs-here : s .todo .node < 213 → codeOf (fieldAt (s .todo .node) .sense) ≡ 9 → s .level ≡ Packet → Directing s true
-  directs-here i c l = record {
-    yes = λ e. (rule-direction (fieldAt (s .todo .node)) c, l, direction-width (s .todo .node) i c);
-    no = λ e. let z : _≡_ {A = ℕ} 0 1 = cc in absurd (omega arith);
-  }
+  -- one is, where the rule of the field says so
+  pub directs-so : ruleAt (s .todo .node) ≡ direction → s .level ≡ Packet → directs s ≡ true
+  directs-so r l = rw (eq-eqb _ 9 (rule-code (fieldAt (s .todo .node) .sense) r), l)
 
-pub not-header : (l : Level) → l ≡ Header → l ≡ Packet → ⊥
-not-header l a b = let z : _≡_ {A = ℕ} 0 1 = cc in omega arith
+  -- by the tests
+  pub directs-not : (codeOf (fieldAt (s .todo .node) .sense) ≡ 9 → ⊥) → false ≡ directs s
+  directs-not n = rw (ne-eqb _ 9 n)
+
+  pub directs-by : codeOf (fieldAt (s .todo .node) .sense) ≡ 9 → {l : Level} → s .level ≡ l → isPacket l ≡ directs s
+  directs-by c e = rw (eq-eqb _ 9 c, e)
 
 pub not-user : (l : Level) → l ≡ User → l ≡ Packet → ⊥
 not-user l a b = let z : _≡_ {A = ℕ} 0 1 = cc in omega arith
 
-pub absurd-flag : {A : Type 0} (b : Bool) → b ≡ true → b ≡ false → A
-absurd-flag b p q = let z : _≡_ {A = ℕ} 0 1 = cc in absurd (omega arith)
+-- whether its packet collides, by the test for that
+module _ (s : State) (v : ℕ) (before : List Earlier) {d : Bool} (e : d ≡ directs s) where
+  pub repeats-not : d ≡ false → false ≡ repeats s v before
+  repeats-not n = let z : directs s ≡ false = sym e ∙ n in rw z
 
--- ---- what is noted of the packets before
+  pub repeats-by : d ≡ true → {r : Bool} → r ≡ collidesAmong clash (s .id) v before → r ≡ repeats s v before
+  repeats-by n h = let z : directs s ≡ true = sym e ∙ n in rw z h
 
--- the level that stands for a packet's is that of a packet
-is-packet : (l : Level) → levelOf l ≡ inPacket → l ≡ Packet
-is-packet Header e = let z : _≡_ {A = ℕ} 0 1 = cc in absurd (omega arith)
-is-packet Packet e = refl
-is-packet User e = let z : _≡_ {A = ℕ} 0 1 = cc in absurd (omega arith)
-
--- nothing, at any other field
-pub earlier-kept : (s : State) (l : List Earlier) (v : ℕ) → Directing s false → earlierAfter l s v ≡ l
-earlier-kept s l v d =
-    kept (contextOf l s) (s .at) v (ruleAt (s .todo .node)) (λ r e. d .no refl r (is-packet (s .level) e))
-
--- and at a packet's Q_DIR, that packet
-pub earlier-grown : (s : State) (l : List Earlier) (v : ℕ) → Directing s true → earlierAfter l s v ≡ record { id = s .id; dir = v } ∷ l
-earlier-grown s l v d =
-    let y = d .yes refl in
-    ap (λ r. noted r (contextOf l s) (s .at) v .earlier) (y .0)
-    ∙ ap (λ (c : Context). c .earlier) (direction-in-packet (contextOf l s) (s .at) v (ap levelOf (y .1)))
+pub repeats-so : (s : State) (v : ℕ) (before : List Earlier) {r : Bool} → ruleAt (s .todo .node) ≡ direction → s .level ≡ Packet → r ≡ repeats s v before
+    → r ≡ collidesAmong clash (s .id) v before
+repeats-so s v before k l e = let z = directs-so s k l in e ∙ rw z
 
 -- ---- a driver's turn
 

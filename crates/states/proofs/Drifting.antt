@@ -11,7 +11,8 @@ use Rattle.bits.specs.declared.Skipped.{Skipped}
 use Rattle.bits.specs.declared.Skipped.the-variants.{To}
 use Rattle.bits.proofs.Fields.{IsPast, skipped}
 use Rattle.format.specs.Table.{act, jump, rest, fieldAt}
-use Rattle.format.proofs.Rows.{next-in, send-free, no-measure}
+use Rattle.format.proofs.Rests.{send-free, no-measure}
+use Rattle.format.proofs.Rows.{next-in}
 use Rattle.laws.proofs.Sources.{width-positive}
 use Rattle.laws.proofs.Told.{and-two}
 use Rattle.states.specs.Machine.{Tidy, Idle, later, Unread, unread, Drifted}

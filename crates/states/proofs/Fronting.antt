@@ -20,7 +20,7 @@ use Rattle.states.specs.declared.State.{State}
 use Rattle.states.specs.declared.Ahead.the-variants.{On}
 use Rattle.states.specs.declared.Verdict.the-variants.{Fine}
 use Rattle.states.proofs.Advancing.{advances-next, advances-end}
-use Rattle.states.proofs.Directions.{directs-not}
+use Rattle.states.proofs.Directions.{away-not}
 use Rattle.states.proofs.Idling.{slight-free}
 use Rattle.states.proofs.Moves.{start-todo}
 use Rattle.states.proofs.Noting.{withPig, pig-any, nothing, closes-header}
@@ -38,13 +38,13 @@ pub first-begins : Beginning (inHeader 0 1 0)
 unfolding begun rowAt
 first-begins = record {
   right = rw (start-todo 1 refl, header-at);
-  sound = record { tidy = record { inside = omega arith; settled = λ e. refl }; first = omega arith; second = omega arith; small = omega arith };
+  sound = record { tidy = record { inside = omega arith; settled = λ e. refl }; first = omega arith; second = omega arith };
 }
 
 -- at a field of it
 sound-header : (x k p : ℕ) → k < 213 → act k ≡ 2 → Sound (inHeader x k p)
 sound-header x k p l e =
-    record { tidy = record { inside = l; settled = λ z. absurd (omega arith) }; first = omega arith; second = omega arith; small = omega arith }
+    record { tidy = record { inside = l; settled = λ z. absurd (omega arith) }; first = omega arith; second = omega arith }
 
 -- a value inside the range of its field
 in-range : (k v : ℕ) → codeOf (fieldAt k .sense) ≡ 10 → lowOf (fieldAt k) ≤ v → v ≤ highOf (fieldAt k) → Slight k v
@@ -106,7 +106,7 @@ module _ (s : List ℕ) (n : ℕ) (rows : List ℕ) (low : n ≤ 830) (wide : n 
 
   after-pig : At (inHeader 12 5 (pigIn a)) 4
   unfolding rowAt
-  after-pig = scans-fine after-media refl refl takes-pig judged-pig (directs-not _ (λ e. omega arith)) enters-pig
+  after-pig = scans-fine after-media refl refl takes-pig judged-pig (away-not (inHeader 9 4 0) (λ e. omega arith)) enters-pig
 
   -- N_TOTAL, at least N_PIG
 
@@ -130,7 +130,7 @@ module _ (s : List ℕ) (n : ℕ) (rows : List ℕ) (low : n ≤ 830) (wide : n 
 
   after-total : At (inHeader 15 6 (pigIn a)) 5
   unfolding rowAt
-  after-total = scans-fine after-pig refl refl takes-total judged-total (directs-not _ (λ e. omega arith)) enters-total
+  after-total = scans-fine after-pig refl refl takes-total judged-total (away-not s5 (λ e. omega arith)) enters-total
 
   -- M_DUP, M_MCOUNT, NID_C, NID_BG
 
@@ -177,7 +177,7 @@ module _ (s : List ℕ) (n : ℕ) (rows : List ℕ) (low : n ≤ 830) (wide : n 
   enters-link =
       entered-on s10 link (inHeader 50 11 0 .todo) s10 50 _ to-end
       (nothing s10 link 0 (λ e. omega arith) (λ e. omega arith) (λ e. omega arith) (λ e. omega arith) (λ e. omega arith)) refl
-      (settled-fresh (inHeader 50 11 (pigIn a)) (record { tidy = to-end .tidy; first = omega arith; second = omega arith; small = omega arith }) refl
+      (settled-fresh (inHeader 50 11 (pigIn a)) (record { tidy = to-end .tidy; first = omega arith; second = omega arith }) refl
       (λ l. sym (closes-header (inHeader 50 11 (pigIn a)) 50 l refl)))
 
   takes-link : takeAt s n 1 49 ≡ Field link (record { at = 50 })
@@ -185,7 +185,7 @@ module _ (s : List ℕ) (n : ℕ) (rows : List ℕ) (low : n ≤ 830) (wide : n 
 
   after-link : At (behind a) 10
   unfolding rowAt
-  after-link = scans-fine after-group refl refl takes-link judged-link (directs-not _ (λ e. omega arith)) enters-link
+  after-link = scans-fine after-group refl refl takes-link judged-link (away-not s10 (λ e. omega arith)) enters-link
 
   -- the whole header
   pub scans-fronted : Scans s n rows r (record { at = r .at }) 10

@@ -27,7 +27,7 @@ use Rattle.states.specs.declared.Todo.{Todo}
 use Rattle.states.specs.declared.Ahead.the-variants.{On}
 use Rattle.states.specs.declared.Verdict.the-variants.{Fine}
 use Rattle.states.proofs.Advancing.{advances-to, advances-inside, advances-next}
-use Rattle.states.proofs.Directions.{Passed, directs-not, directs-elsewhere, not-user, passes}
+use Rattle.states.proofs.Directions.{Passed, away-not, away-elsewhere, not-user, passes}
 use Rattle.states.proofs.LookedBack.{looks-back}
 use Rattle.states.proofs.Noting.{inPacket, inUser, withDir, packet-opens, user-opens, dir-packet, dir-user, long-packet, long-user}
 use Rattle.states.proofs.Scanning.{Scans, scans-on, scans-fine}
@@ -70,7 +70,6 @@ module _ {s : List ℕ} {n : ℕ} {rows : List ℕ} {st : State} {c : Cursor} {c
         tidy = to-more .tidy;
         first = omega (arith, d .first, notes .first, past-size .past, i .here);
         second = omega (arith, notes .second (d .second), past-size .past, i .here);
-        small = notes .small (d .small) (λ e. absurd (omega arith));
       }
 
   enters : Entered st v (Go after)
@@ -81,7 +80,7 @@ module _ {s : List ℕ} {n : ℕ} {rows : List ℕ} {st : State} {c : Cursor} {c
   pub scans-size : Scans s n rows after next (count + 1)
   scans-size =
       scans-fine i thirteen refl h (λ p l e. judge-free p (contextOf l st) (fieldAt (st .todo .node)) v (omega arith))
-      (directs-not st (λ e. omega arith)) enters
+      (away-not st (λ e. omega arith)) enters
 
 module _ {s : List ℕ} {n : ℕ} {rows : List ℕ} {st : State} {c : Cursor} {count : ℕ} (i : Scans s n rows st c count)
     (z : st .todo .node ≡ 0) {r : State} (o : Opened s n st r) where
@@ -108,9 +107,6 @@ module _ {s : List ℕ} {n : ℕ} {rows : List ℕ} {st : State} {c : Cursor} {c
   eight : 8 ≡ fieldAt (st .todo .node) .width
   eight = sym (packet-width (st .todo .node) (i .drives .sound .tidy .inside) is-packet)
 
-  id-small : idIn a < 256
-  id-small = omega (arith, whole .small)
-
   takes-id : takeAt s n 8 (c .at) ≡ Field (idIn a) (record { at = st .at + 8 })
   takes-id =
       rw (i .here) (rw add-zero at (take-part s n 0 8 15 (st .at) a (idIn a) _ whole (omega arith) (omega (arith, whole .small))))
@@ -126,7 +122,7 @@ module _ {s : List ℕ} {n : ℕ} {rows : List ℕ} {st : State} {c : Cursor} {c
   to-packet = advances-to (st .todo) (idIn a) (i .drives .sound .tidy) (etcsStart (idIn a)) refl (ap act z ∙ none-act) row-some
 
   sound1 : Sound s1
-  sound1 = record { tidy = to-packet .tidy; first = omega (arith, i .drives .sound .first); second = omega arith; small = id-small }
+  sound1 = record { tidy = to-packet .tidy; first = omega (arith, i .drives .sound .first); second = omega arith }
 
   judged1 : Judged st (idIn a) false Fine
   judged1 p l h = packet-some (idIn a) row-some ∙ judge-packet p (contextOf l st) (fieldAt (st .todo .node)) (idIn a) is-packet
@@ -141,7 +137,7 @@ module _ {s : List ℕ} {n : ℕ} {rows : List ℕ} {st : State} {c : Cursor} {c
       (settled-goes s1 sound1 (λ e. omega (arith, rows-there .direction)))
 
   scans1 : Scans s n rows s1 (record { at = st .at + 8 }) (count + 1)
-  scans1 = scans-fine i eight refl takes-id judged1 (directs-not st not-nine1) enters1
+  scans1 = scans-fine i eight refl takes-id judged1 (away-not st not-nine1) enters1
 
   -- Q_DIR
 
@@ -158,7 +154,7 @@ module _ {s : List ℕ} {n : ℕ} {rows : List ℕ} {st : State} {c : Cursor} {c
   to-size = advances-next (s1 .todo) (dirIn a) (sound1 .tidy) (rows-there .direction) (λ e. omega (arith, rows-there .next))
 
   sound2 : Sound s2
-  sound2 = record { tidy = to-size .tidy; first = omega (arith, i .drives .sound .first); second = omega arith; small = id-small }
+  sound2 = record { tidy = to-size .tidy; first = omega (arith, i .drives .sound .first); second = omega arith }
 
   judged2 : Judged s1 (dirIn a) false Fine
   judged2 p l h =
@@ -243,7 +239,7 @@ module _ {s : List ℕ} {n : ℕ} {rows : List ℕ} {st : State} {c : Cursor} {c
   to-user = advances-inside (st .todo) (idIn b) (i .drives .sound .tidy) (ctcsStart (idIn b)) refl z
 
   firm1 : Sound t1
-  firm1 = let d = i .drives .sound in record { tidy = to-user .tidy; first = omega (arith, d .first); second = omega arith; small = d .small }
+  firm1 = let d = i .drives .sound in record { tidy = to-user .tidy; first = omega (arith, d .first); second = omega arith }
 
   comes1 : Entered st (idIn b) (Go t1)
   comes1 =
@@ -254,7 +250,7 @@ module _ {s : List ℕ} {n : ℕ} {rows : List ℕ} {st : State} {c : Cursor} {c
   goes1 : Scans s n rows t1 (record { at = st .at + 9 }) (count + 1)
   goes1 =
       scans-fine i nine refl takes-user (λ p l h. user-some (idIn b) user-there ∙ judge-user p (contextOf l st) (fieldAt (st .todo .node)) (idIn b) is-user)
-      (directs-not st (λ e. omega (arith, is-user))) comes1
+      (away-not st (λ e. omega (arith, is-user))) comes1
 
   -- Q_DIR
 
@@ -271,7 +267,7 @@ module _ {s : List ℕ} {n : ℕ} {rows : List ℕ} {st : State} {c : Cursor} {c
   to-length = advances-next (t1 .todo) (dirIn b) (firm1 .tidy) (rows-here .direction) (λ e. omega (arith, rows-here .next))
 
   firm2 : Sound t2
-  firm2 = let d = i .drives .sound in record { tidy = to-length .tidy; first = omega (arith, d .first); second = omega arith; small = d .small }
+  firm2 = let d = i .drives .sound in record { tidy = to-length .tidy; first = omega (arith, d .first); second = omega arith }
 
   comes2 : Entered t1 (dirIn b) (Go t2)
   comes2 =
@@ -283,7 +279,7 @@ module _ {s : List ℕ} {n : ℕ} {rows : List ℕ} {st : State} {c : Cursor} {c
   goes2 =
       scans-fine goes1 both refl takes-way
       (λ p l h. direction-same p (contextOf l t1) (dirIn b) (o .allowed) refl (o .alike) ∙ judge-direction p (contextOf l t1) (fieldAt j) (dirIn b) (o .known))
-      (directs-elsewhere t1 (not-user User refl)) comes2
+      (away-elsewhere t1 (not-user User refl)) comes2
 
   -- L_PACKET
 

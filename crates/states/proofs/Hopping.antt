@@ -1,12 +1,11 @@
 -- Looking back over bits: one hop, and where the hops end. Assumes nothing.
 use mathlib.Core.Bool.{Bool, true, false, _&&_, _||_}
-use mathlib.Core.List.{List, [], _∷_, _++_, reverse, reverse-cons}
+use mathlib.Core.List.{List, [], _∷_}
 use mathlib.Core.Path.{_≡_, refl, sym, ap, _∙_}
 use Prim.Native.Nat.{ℕ, zero, suc, _+_, _-_, _≤_, _<_}
 use native.Mathlib.Decide.{decLe}
 use native.Mathlib.Nat.{lt-of-not-le}
 use native.Mathlib.Omega.{arith}
-use borrow.Author.Tests.{eq-eqb, ne-eqb}
 use lib.Dec.{eqb}
 use Rattle.bits.specs.Take.{takeAt, skipAt}
 use Rattle.bits.specs.declared.Cursor.{Cursor}
@@ -14,45 +13,9 @@ use Rattle.bits.specs.declared.Taken.{Taken}
 use Rattle.bits.specs.declared.Taken.the-variants.{Field, Short}
 use Rattle.bits.specs.declared.Skipped.the-variants.{To, Lacking}
 use Rattle.bits.proofs.Fields.{IsField, taken, take-past, skip-whole, skipped}
-use Rattle.format.specs.Rules.{Earlier, clash, among, collidesAmong}
+use Rattle.format.specs.Rules.{clash, among}
 use Rattle.laws.proofs.Recalled.{among-none, among-more}
 use Rattle.states.specs.Lookback.{packetsBefore, idIn, dirIn, longIn, hopped}
-
--- whether a packet collides, where it is no ETCS-44
-pub told : (i d : ℕ) (l : List Earlier) (b : Bool) → (i ≡ 44 → ⊥) → among clash i d l ≡ b → b ≡ collidesAmong clash i d l
-told i d l b n e = simp (ne-eqb i 44 n, e)
-
-pub none-told : (i d : ℕ) (l : List Earlier) → i ≡ 44 → false ≡ collidesAmong clash i d l
-none-told i d l e = simp (eq-eqb i 44 e)
-
--- among packets, and then others
-among-append : (collide : ℕ → ℕ → Bool) (i d : ℕ) (l m : List Earlier)
-    → among collide i d (l ++ m) ≡ (among collide i d l || among collide i d m)
-unfolding among
-among-append collide i d [] m = refl
-among-append collide i d (e ∷ l) m =
-    ap (λ (x : Bool). eqb i (e .id) && collide d (e .dir) || x) (among-append collide i d l m)
-    ∙ joined (eqb i (e .id) && collide d (e .dir)) (among collide i d l) (among collide i d m)
-  where
-    joined : (a b c : Bool) → (a || (b || c)) ≡ ((a || b) || c)
-    joined true b c = refl
-    joined false b c = refl
-
--- in the other order
-pub among-reverse : (collide : ℕ → ℕ → Bool) (i d : ℕ) (l : List Earlier) → among collide i d (reverse l) ≡ among collide i d l
-unfolding among
-among-reverse collide i d [] = refl
-among-reverse collide i d (e ∷ l) =
-    ap (among collide i d) (reverse-cons e l)
-    ∙ among-append collide i d (reverse l) (e ∷ [])
-    ∙ ap (λ (x : Bool). x || among collide i d (e ∷ [])) (among-reverse collide i d l)
-    ∙ swapped (among collide i d l) (eqb i (e .id) && collide d (e .dir))
-  where
-    swapped : (a b : Bool) → (a || (b || false)) ≡ (b || a)
-    swapped true true = refl
-    swapped true false = refl
-    swapped false true = refl
-    swapped false false = refl
 
 -- ---- one hop
 

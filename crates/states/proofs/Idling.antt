@@ -12,16 +12,16 @@ use borrow.Author.Tests.{eqb-true, eqb-false, ltb-true, ltb-false, leb-true}
 use lib.Dec.{eqb, leb, ltb}
 use Rattle.format.specs.Rules.{Earlier, broken, unless, forbidden}
 use Rattle.format.specs.Table.{act, jump, rest, fieldAt, codeOf}
-use Rattle.format.proofs.Rows.{field-free, Ranges, from-zero, from-one}
+use Rattle.format.proofs.Rests.{field-free, Ranges, from-zero, from-one}
 use Rattle.laws.proofs.Told.{and-two}
-use Rattle.states.specs.Machine.{contextOf, levelOf, ruleAt, Tidy, Idle, later, Slight, slight, reached, Advanced, Noted, Sound, Judged, Settled, Entered, Directing}
+use Rattle.states.specs.Machine.{contextOf, levelOf, ruleAt, Tidy, Idle, later, Slight, slight, reached, Advanced, Noted, Sound, Judged, Settled, Entered}
 use Rattle.states.specs.declared.State.{State}
 use Rattle.states.specs.declared.Outcome.{Outcome}
 use Rattle.states.specs.declared.Todo.{Todo}
 use Rattle.states.specs.declared.Ahead.the-variants.{On}
 use Rattle.states.specs.declared.Verdict.the-variants.{Fine}
 use Rattle.states.proofs.Advancing.{advances-next, again-field, advances-again}
-use Rattle.states.proofs.Directions.{Passed, directs-not, passes}
+use Rattle.states.proofs.Directions.{Away, Passed, away-not, passes}
 use Rattle.states.proofs.Noting.{nothing}
 use Rattle.states.proofs.Senses.{judge-free, judge-range, range-in}
 use Rattle.states.proofs.Stepping.{entered-on, stepped-goes}
@@ -47,9 +47,9 @@ module _ (t : Todo) (d : Tidy t) (i : Idle t) (v : ℕ) where
   idle-ahead = by-test (eqb (act k) 0) refl
 
 -- a value that keeps its rule, where no packet's Q_DIR is due
-pub fine-passed : (s : State) → Sound s → (v : ℕ) → Judged s v false Fine → Directing s false → {r : Outcome} → Entered s v r → (l : List Earlier)
+pub fine-passed : (s : State) → Sound s → (v : ℕ) → Judged s v false Fine → Away s → {r : Outcome} → Entered s v r → (l : List Earlier)
     → Passed l s v r
-fine-passed s d v j away {r} e l = passes l s v false r (λ k h. absurd (away .no refl k h)) (stepped-goes s v false d r j e)
+fine-passed s d v j away {r} e l = passes l s v false r (λ k h. absurd (away k h)) (stepped-goes s v false d r j e)
 
 -- whatever a field holds that may hold anything
 pub slight-free : {k v : ℕ} → codeOf (fieldAt k .sense) < 3 → Slight k v
@@ -99,7 +99,7 @@ module _ (s : State) (d : Sound s) (v : ℕ) (q : Slight (s .todo .node) v) {u :
       (kept-not 8 (omega arith) (omega arith)) (kept-not 4 (omega arith) (omega arith))
 
   pub sound-after : Sound after
-  sound-after = record { tidy = a .tidy; first = omega (arith, d .first); second = omega (arith, d .second); small = d .small }
+  sound-after = record { tidy = a .tidy; first = omega (arith, d .first); second = omega (arith, d .second) }
 
   pub slight-entered : {r : Outcome} → Settled after r → Entered s v r
   slight-entered {r} t = entered-on s v u s x r a notes ex t
@@ -115,5 +115,5 @@ module _ (s : State) (d : Sound s) (v : ℕ) (q : Slight (s .todo .node) v) {u :
           ∙ judge-range p (contextOf l s) (fieldAt (s .todo .node)) v r
       by (no g) = let r = lt-of-not-le g in judge-free p (contextOf l s) (fieldAt (s .todo .node)) v (omega arith)
 
-  pub slight-not : Directing s false
-  slight-not = directs-not s (kept-not 9 (omega arith) (omega arith))
+  pub slight-not : Away s
+  slight-not = away-not s (kept-not 9 (omega arith) (omega arith))

@@ -6,6 +6,7 @@ pub mod Places
 pub mod Senses
 pub mod Distances
 pub mod Noting
+pub mod Colliding
 pub mod Hopping
 pub mod Stepping
 pub mod Directions

@@ -1,12 +1,10 @@
--- Looking back finds just the packets that were sent, over bits and over values: both go by the packets that stand whole among the entries
--- (`Whole` of the crate laws). Assumes nothing.
-use mathlib.Core.Bool.{Bool, not, _&&_}
+-- Looking back over bits finds just the packets that were sent: those that stand whole among the entries (`Whole` of the crate laws). Assumes nothing.
+use mathlib.Core.Bool.{Bool}
 use mathlib.Core.List.{List, [], _∷_, _++_, append-assoc, append-nil, reverse, reverse-cons}
 use mathlib.Core.Path.{_≡_, sym, ap, _∙_}
 use Prim.Native.Nat.{ℕ, suc, _+_, _*_, _-_, _≤_, _<_}
 use native.Mathlib.Nat.{add-zero}
 use native.Mathlib.Omega.{arith}
-use lib.Dec.{eqb}
 use lib.ListN.{length, take, drop, length-append}
 use lib.Seq.{take-at, drop-at}
 use Rattle.bits.specs.Bits.{digits, valueOf, bitsOf}
@@ -18,7 +16,7 @@ use Rattle.bits.proofs.Digits.{length-digits, valueOf-append, valueOf-digits}
 use Rattle.bits.proofs.Fields.{take-whole, take-past}
 use Rattle.format.specs.Fields.{NID-PACKET}
 use Rattle.format.specs.Fields.Rule.{direction}
-use Rattle.format.specs.Rules.{Earlier, ruleOf, clash, among, collidesAmong, collidesBy}
+use Rattle.format.specs.Rules.{Earlier, ruleOf, clash, collidesAmong, collidesBy}
 use Rattle.format.specs.Telegrams.{Entry, bits, bitsIn, bitCount}
 use Rattle.laws.proofs.Demand2.{length-bits}
 use Rattle.laws.proofs.Round.{all-append}
@@ -27,13 +25,14 @@ use Rattle.laws.proofs.Points.{holding}
 use Rattle.laws.proofs.Stages.{sends-directs}
 use Rattle.laws.proofs.Whole.{Whole, headed}
 use Rattle.laws.proofs.Whole.Whole.{front, then}
-use Rattle.states.specs.Lookback.{packetsBefore, idIn, dirIn, longIn, hopped, Twice}
+use Rattle.states.specs.Lookback.{packetsBefore, idIn, dirIn, longIn, hopped, repeats}
 use Rattle.states.specs.Machine.{contextOf, levelOf, ruleAt, Stepped}
 use Rattle.states.specs.declared.Level.the-variants.{Packet}
 use Rattle.states.specs.declared.Outcome.{Outcome}
 use Rattle.states.specs.declared.State.{State}
-use Rattle.states.proofs.Directions.{Passed, passes}
-use Rattle.states.proofs.Hopping.{among-reverse, hopped-head, hopped-short}
+use Rattle.states.proofs.Directions.{Passed, passes, repeats-so}
+use Rattle.states.proofs.Colliding.{found-back}
+use Rattle.states.proofs.Hopping.{hopped-head, hopped-short}
 use Rattle.states.proofs.Scanning.{Scans, telegramBits, inside-take, field-is}
 use Rattle.format.specs.Fields as fields
 use Rattle.laws.proofs.Whole as whole
@@ -153,14 +152,9 @@ module _ {s : List ℕ} {n : ℕ} {rows : List ℕ} {st : State} {c : Cursor} {c
       ∙ ap (λ (x : List ℕ). x ++ drop (st .at) (telegramBits s n)) (all-append bitsIn b (mark ∷ []))
       ∙ append-assoc (bits b) (bits (mark ∷ [])) (drop (st .at) (telegramBits s n)) in
       let low : bitCount b ≤ n = omega (arith, i .drives .sound .first, i .within, q .start) in
-      ap (λ (x : Bool). not (eqb (st .id) 44) && x)
-      (sym
-      (ap (λ (x : ℕ). among clash (st .id) v (packetsBefore s x)) (q .start)
-      ∙ ap (among clash (st .id) v) (whole-before s n (i .wide) (q .whole) _ fs low)
-      ∙ among-reverse clash (st .id) v (i .drives .earlier)))
-      ∙ sym e
+      found-back (st .id) v (i .drives .earlier) (ap (packetsBefore s) (q .start) ∙ whole-before s n (i .wide) (q .whole) _ fs low) e
 
   -- so a step that is told whether they collide is the definition's
-  pub scans-passed : (v : ℕ) {twice : Bool} {r : Outcome} → Twice st v (packetsBefore s (st .start)) twice → Stepped st v twice r
+  pub scans-passed : (v : ℕ) {twice : Bool} {r : Outcome} → twice ≡ repeats st v (packetsBefore s (st .start)) → Stepped st v twice r
       → Passed (i .drives .earlier) st v r
-  scans-passed v {twice} {r} t o = passes (i .drives .earlier) st v twice r (λ k l. looks-back v k l (t k l)) o
+  scans-passed v {twice} {r} t o = passes (i .drives .earlier) st v twice r (λ k l. looks-back v k l (repeats-so st v _ k l t)) o

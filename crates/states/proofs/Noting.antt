@@ -36,58 +36,58 @@ module _ (s : State) (v : ℕ) where
   -- Q_DIR
   pub dir-header : s .level ≡ Header → Noted s 9 v s
   unfolding noted senseOf
-  dir-header e = record { right = λ a b l. rw e; here = refl; same = refl; first = refl; second = λ h. h; small = λ h f. h }
+  dir-header e = record { right = λ a b l. rw e; here = refl; same = refl; first = refl; second = λ h. h }
 
   pub dir-packet : s .level ≡ Packet → Noted s 9 v (withDir s v)
   unfolding noted senseOf
-  dir-packet e = record { right = λ a b l. rw e; here = refl; same = refl; first = refl; second = λ h. h; small = λ h f. h }
+  dir-packet e = record { right = λ a b l. rw e; here = refl; same = refl; first = refl; second = λ h. h }
 
   pub dir-user : s .level ≡ User → Noted s 9 v s
   unfolding noted senseOf
-  dir-user e = record { right = λ a b l. rw e; here = refl; same = refl; first = refl; second = λ h. h; small = λ h f. h }
+  dir-user e = record { right = λ a b l. rw e; here = refl; same = refl; first = refl; second = λ h. h }
 
   -- L_PACKET
   pub long-header : s .level ≡ Header → Noted s 3 v s
   unfolding noted senseOf
-  long-header e = record { right = λ a b l. rw e; here = refl; same = refl; first = refl; second = λ h. h; small = λ h f. h }
+  long-header e = record { right = λ a b l. rw e; here = refl; same = refl; first = refl; second = λ h. h }
 
   pub long-packet : s .level ≡ Packet → Noted s 3 v (withLong s v)
   unfolding noted senseOf
-  long-packet e = record { right = λ a b l. rw e; here = refl; same = refl; first = refl; second = λ h. h; small = λ h f. h }
+  long-packet e = record { right = λ a b l. rw e; here = refl; same = refl; first = refl; second = λ h. h }
 
   pub long-user : s .level ≡ User → Noted s 3 v (withUserLong s v)
   unfolding noted senseOf
-  long-user e = record { right = λ a b l. rw e; here = refl; same = refl; first = refl; second = λ h. h; small = λ h f. h }
+  long-user e = record { right = λ a b l. rw e; here = refl; same = refl; first = refl; second = λ h. h }
 
   -- N_PIG
   pub pig-any : Noted s 4 v (withPig s v)
   unfolding noted senseOf
-  pig-any = record { right = λ a b l. refl; here = refl; same = refl; first = refl; second = λ h. h; small = λ h f. h }
+  pig-any = record { right = λ a b l. refl; here = refl; same = refl; first = refl; second = λ h. h }
 
   -- NID_PACKET and NID_XUSER
   pub packet-opens : Noted s 7 v (inPacket s v)
   unfolding noted senseOf
-  packet-opens = record { right = λ a b l. refl; here = refl; same = refl; first = refl; second = λ h. omega arith; small = λ h f. f refl }
+  packet-opens = record { right = λ a b l. refl; here = refl; same = refl; first = refl; second = λ h. omega arith }
 
   pub user-opens : Noted s 8 v (inUser s)
   unfolding noted senseOf
-  user-opens = record { right = λ a b l. refl; here = refl; same = refl; first = refl; second = λ h. omega arith; small = λ h f. h }
+  user-opens = record { right = λ a b l. refl; here = refl; same = refl; first = refl; second = λ h. omega arith }
 
   -- of any other field nothing is kept
   pub nothing : (c : ℕ) → (c ≡ 9 → ⊥) → (c ≡ 3 → ⊥) → (c ≡ 7 → ⊥) → (c ≡ 8 → ⊥) → (c ≡ 4 → ⊥) → Noted s c v s
   unfolding noted senseOf
-  nothing zero a b d e f = record { right = λ x y l. refl; here = refl; same = refl; first = refl; second = λ h. h; small = λ h f. h }
-  nothing (suc zero) a b d e f = record { right = λ x y l. refl; here = refl; same = refl; first = refl; second = λ h. h; small = λ h f. h }
-  nothing (suc (suc zero)) a b d e f = record { right = λ x y l. refl; here = refl; same = refl; first = refl; second = λ h. h; small = λ h f. h }
+  nothing zero a b d e f = record { right = λ x y l. refl; here = refl; same = refl; first = refl; second = λ h. h }
+  nothing (suc zero) a b d e f = record { right = λ x y l. refl; here = refl; same = refl; first = refl; second = λ h. h }
+  nothing (suc (suc zero)) a b d e f = record { right = λ x y l. refl; here = refl; same = refl; first = refl; second = λ h. h }
   nothing (suc (suc (suc zero))) a b d e f = absurd (b refl)
   nothing (suc (suc (suc (suc zero)))) a b d e f = absurd (f refl)
-  nothing (suc (suc (suc (suc (suc zero))))) a b d e f = record { right = λ x y l. refl; here = refl; same = refl; first = refl; second = λ h. h; small = λ h f. h }
-  nothing (suc (suc (suc (suc (suc (suc zero)))))) a b d e f = record { right = λ x y l. refl; here = refl; same = refl; first = refl; second = λ h. h; small = λ h f. h }
+  nothing (suc (suc (suc (suc (suc zero))))) a b d e f = record { right = λ x y l. refl; here = refl; same = refl; first = refl; second = λ h. h }
+  nothing (suc (suc (suc (suc (suc (suc zero)))))) a b d e f = record { right = λ x y l. refl; here = refl; same = refl; first = refl; second = λ h. h }
   nothing (suc (suc (suc (suc (suc (suc (suc zero))))))) a b d e f = absurd (d refl)
   nothing (suc (suc (suc (suc (suc (suc (suc (suc zero)))))))) a b d e f = absurd (e refl)
   nothing (suc (suc (suc (suc (suc (suc (suc (suc (suc zero))))))))) a b d e f = absurd (a refl)
-  nothing (suc (suc (suc (suc (suc (suc (suc (suc (suc (suc zero)))))))))) a b d e f = record { right = λ x y l. refl; here = refl; same = refl; first = refl; second = λ h. h; small = λ h f. h }
-  nothing (suc (suc (suc (suc (suc (suc (suc (suc (suc (suc (suc c))))))))))) a b d e f = record { right = λ x y l. refl; here = refl; same = refl; first = refl; second = λ h. h; small = λ h f. h }
+  nothing (suc (suc (suc (suc (suc (suc (suc (suc (suc (suc zero)))))))))) a b d e f = record { right = λ x y l. refl; here = refl; same = refl; first = refl; second = λ h. h }
+  nothing (suc (suc (suc (suc (suc (suc (suc (suc (suc (suc (suc c))))))))))) a b d e f = record { right = λ x y l. refl; here = refl; same = refl; first = refl; second = λ h. h }
 
 -- ---- a packet's end
 

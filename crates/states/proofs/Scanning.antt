@@ -25,7 +25,7 @@ use Rattle.format.specs.declared.Kind.{Kind}
 use Rattle.format.specs.declared.Kind.the-variants.{Ended, Trailing}
 use Rattle.format.specs.declared.Answer.the-variants.{Accepted}
 use Rattle.laws.proofs.Sources.{Sent, from-bits, width-positive}
-use Rattle.states.specs.Machine.{view, contextOf, levelOf, Beginning, Sound, Advanced, later, Drifted, Slight, reached, freshAt, Judged, Settled, Entered, Directing}
+use Rattle.states.specs.Machine.{view, contextOf, levelOf, Beginning, Sound, Advanced, later, Drifted, Slight, reached, freshAt, Judged, Settled, Entered}
 use Rattle.states.specs.Machine.Drifted.{nothing, field}
 use Rattle.states.specs.Reader.{answerOf}
 use Rattle.states.specs.declared.State.{State}
@@ -35,7 +35,7 @@ use Rattle.states.specs.declared.Verdict.the-variants.{Fine}
 use Rattle.states.specs.declared.Outcome.{Outcome}
 use Rattle.states.specs.declared.Outcome.the-variants.{Go, Over, Breaks}
 use Rattle.states.proofs.Stepping.{width-in, settled-goes, settled-fresh}
-use Rattle.states.proofs.Directions.{Passed}
+use Rattle.states.proofs.Directions.{Away, Passed}
 use Rattle.states.proofs.Driving.{placed, Drives, drives-first, due-is, here, refused-lacking, refused-broken, accepted-mark, refused-trailing, mark-counted, moves, drives-on}
 use Rattle.states.proofs.Idling.{idle-ahead, slight-free, fine-passed, slight-judged, slight-not, slight-entered, sound-after}
 use Rattle.format.specs.Fields as fields
@@ -210,7 +210,7 @@ scans-here i = record { low = i .low; wide = i .wide; drives = i .drives; here =
 -- past a value that keeps its rule, where no packet's Q_DIR is due
 module _ {s : List ℕ} {n : ℕ} {rows : List ℕ} {st : State} {c : Cursor} {count : ℕ} (i : Scans s n rows st c count)
     {w : ℕ} (ew : w ≡ fieldAt (st .todo .node) .width) {t : Taken} (e : t ≡ takeAt s n w (c .at)) {v : ℕ} {next : Cursor} (h : t ≡ Field v next) where
-  pub scans-fine : Judged st v false Fine → Directing st false → {r : State} → Entered st v (Go r)
+  pub scans-fine : Judged st v false Fine → Away st → {r : State} → Entered st v (Go r)
       → Scans s n rows r next (count + 1)
   scans-fine j away a =
       scans-on i ew e h (fine-passed st (i .drives .sound) v j away a (i .drives .earlier)) refl

@@ -2,7 +2,7 @@
 use mathlib.Core.Path.{_≡_, refl, _∙_, sym, ap}
 use mathlib.Core.Bool.{Bool, true, false, cond, _&&_}
 use mathlib.Core.List.{List}
-use Prim.Native.Nat.{ℕ, _+_, _^_, _<_, _≤_}
+use Prim.Native.Nat.{ℕ, _+_, _≤_}
 use native.Mathlib.Omega.{arith}
 use lib.Dec.{T, leb, leb→le}
 use Rattle.format.specs.Fields.{Field}
@@ -19,7 +19,6 @@ use Rattle.states.specs.declared.State.{State}
 use Rattle.states.specs.declared.Outcome.{Outcome}
 use Rattle.states.specs.declared.Outcome.the-variants.{Go, Over, Breaks}
 use Rattle.states.specs.declared.Verdict.the-variants.{Fine, Broken}
-use Rattle.format.proofs.Rows.{packet-width}
 use Rattle.states.proofs.Moves.{todo-end, goes-on, none-left, due-right}
 use Rattle.states.proofs.Senses.{sense-is}
 
@@ -31,10 +30,6 @@ and-right false b t = absurd t
 
 pub width-in : (f : Field) → f .width ≤ 64
 width-in f = leb→le (f .width) 64 (and-right (leb 1 (f .width)) (leb (f .width) 64) (f .sized))
-
--- a value of NID_PACKET fits eight bits
-pub packet-small : (k v : ℕ) → k < 213 → codeOf (fieldAt k .sense) ≡ 7 → v < 2 ^ fieldAt k .width → v < 256
-packet-small k v l e h = rw (packet-width k l e) at h
 
 -- ---- a packet's end
 
@@ -60,7 +55,7 @@ module _ (s : State) (d : Sound s) where
     unfolding rowAt
     settled-fresh h = record {
       right = λ l. settled-by true l (h l) ∙ rw none-left;
-      kept = (record { tidy = record { inside = omega arith; settled = λ e. refl }; first = omega arith; second = omega arith; small = omega arith }, refl);
+      kept = (record { tidy = record { inside = omega arith; settled = λ e. refl }; first = omega arith; second = omega arith }, refl);
     }
 
 -- ---- a value that keeps its rule

@@ -1,5 +1,5 @@
--- Looking back over values: one value more, and what whole packets among them make. Assumes nothing.
-use mathlib.Core.Bool.{Bool, true, false, not, _&&_, _||_}
+-- Looking back over values finds just the packets that were sent, as over bits; and the loop that walks. Assumes nothing.
+use mathlib.Core.Bool.{Bool, true, false, _&&_, _||_}
 use mathlib.Core.List.{List, [], _∷_, _++_, append-assoc, append-nil, reverse, reverse-cons}
 use mathlib.Core.Option.{Option, some, none}
 use mathlib.Core.Path.{_≡_, refl, sym, ap, _∙_}
@@ -24,7 +24,7 @@ use Rattle.laws.proofs.Steps.{going}
 use Rattle.laws.proofs.Whole.{Goes, Whole, headed}
 use Rattle.laws.proofs.Whole.Goes.{here, further}
 use Rattle.laws.proofs.Whole.Whole.{front, then}
-use Rattle.states.specs.Lookback.{begins, withPacket, walked, packetsAmong, Twice}
+use Rattle.states.specs.Lookback.{begins, withPacket, walked, packetsAmong, repeats}
 use Rattle.states.specs.Machine.{contextOf, levelOf, ruleAt, todoOf, Tidy, Advanced, Stepped}
 use Rattle.states.specs.declared.Level.the-variants.{Packet}
 use Rattle.states.specs.declared.Outcome.{Outcome}
@@ -32,8 +32,8 @@ use Rattle.states.specs.declared.State.{State}
 use Rattle.states.specs.declared.Todo.{Todo}
 use Rattle.states.specs.declared.Ahead.{Ahead}
 use Rattle.states.specs.declared.Ahead.the-variants.{On, Mark}
-use Rattle.states.proofs.Directions.{Passed, passes}
-use Rattle.states.proofs.Hopping.{among-reverse}
+use Rattle.states.proofs.Directions.{Passed, passes, repeats-so}
+use Rattle.states.proofs.Colliding.{found-back}
 use Rattle.states.proofs.Measuring.{Measures, field-is}
 use Rattle.states.proofs.Moves.{none-left, todo-begins, todo-begins-not}
 use Rattle.format.specs.Fields as fields
@@ -127,17 +127,12 @@ module _ {vs rows : List ℕ} {st : State} {i : ℕ} (m : Measures vs rows st i)
       let q = sends-directs (m .drives .sends) (ap (λ (f : fields.Field). ruleOf (f .sense)) (field-is m) ∙ k) (ap levelOf l) in
       let fs : take i vs ≡ values (q .before) ++ (q .name ∷ []) =
       before-is ∙ ap values (q .ends) ∙ all-append valuesIn (q .before) (holding NID-PACKET (q .name) ∷ []) in
-      ap (λ (x : Bool). not (eqb (st .id) 44) && x)
-      (sym
-      (ap (λ (x : List ℕ). among clash (st .id) v (walked (drop 10 x) (some end))) fs
-      ∙ ap (among clash (st .id) v) (whole-among (q .whole) (q .name))
-      ∙ among-reverse clash (st .id) v (m .drives .earlier)))
-      ∙ sym e
+      found-back (st .id) v (m .drives .earlier) (ap (λ (x : List ℕ). walked (drop 10 x) (some end)) fs ∙ whole-among (q .whole) (q .name)) e
 
   -- so a step that is told whether they collide is the definition's
-  pub measures-passed : (v : ℕ) {twice : Bool} {r : Outcome} → Twice st v (packetsAmong vs i) twice → Stepped st v twice r
+  pub measures-passed : (v : ℕ) {twice : Bool} {r : Outcome} → twice ≡ repeats st v (packetsAmong vs i) → Stepped st v twice r
       → Passed (m .drives .earlier) st v r
-  measures-passed v {twice} {r} t o = passes (m .drives .earlier) st v twice r (λ k l. walks-back v k l (t k l)) o
+  measures-passed v {twice} {r} t o = passes (m .drives .earlier) st v twice r (λ k l. walks-back v k l (repeats-so st v _ k l t)) o
 
 -- ---- the loop that walks
 

@@ -1,21 +1,21 @@
 -- The packets that came before, as the code finds them: no list of them is kept, but what was read already is looked over again. Definitions
 -- alone.
-use mathlib.Core.Bool.{Bool, true, false}
+use mathlib.Core.Bool.{Bool, true, false, _&&_}
 use mathlib.Core.List.{List, [], _∷_}
 use mathlib.Core.Option.{Option, some, none}
-use mathlib.Core.Path.{_≡_}
 use Prim.Native.Nat.{ℕ, zero, suc, _+_, _-_, _/_, _%_}
+use lib.Dec.{eqb}
 use lib.ListN.{take, drop}
 use Rattle.bits.specs.Take.{takeAt}
 use Rattle.bits.specs.declared.Cursor.{Cursor}
 use Rattle.bits.specs.declared.Taken.{Taken}
 use Rattle.bits.specs.declared.Taken.the-variants.{Field, Short}
-use Rattle.format.specs.Fields.Rule.{direction}
 use Rattle.format.specs.Packets.{Items}
 use Rattle.format.specs.Packets.Items.{end, nest, send, sendIf, sendEither, sendTimes}
 use Rattle.format.specs.Rules.{Earlier, clash, collidesAmong, next}
-use Rattle.states.specs.Machine.{ruleAt}
-use Rattle.states.specs.declared.Level.the-variants.{Packet}
+use Rattle.format.specs.Table.{fieldAt, codeOf}
+use Rattle.states.specs.declared.Level.{Level}
+use Rattle.states.specs.declared.Level.the-variants.{Header, Packet, User}
 use Rattle.states.specs.declared.State.{State}
 
 -- ---- over bits: from packet to packet
@@ -48,7 +48,7 @@ packetsBefore s stop = hopped stop s stop 50
 
 -- ---- over values: field by field, since L_PACKET counts bits and not values
 
--- nothing is left to send, so that a packet begins
+-- nothing is left to send, so that a packet begins, or the end mark
 abbrev pub begins : Items → Bool
 begins end = true
 begins nest = false
@@ -57,7 +57,7 @@ begins (sendIf c f r) = false
 begins (sendEither c a b) = false
 begins (sendTimes c g r) = false
 
--- with the packet that begins with the value v, if one does and its Q_DIR is there
+-- with the packet that begins with the value v, if something begins there and a value follows, which is then its Q_DIR
 abbrev pub withPacket : Bool → ℕ → List ℕ → List Earlier → List Earlier
 withPacket false v vs l = l
 withPacket true v [] l = l
@@ -75,6 +75,16 @@ packetsAmong vs n = walked (drop 10 (take n vs)) (some end)
 
 -- ---- at the field that is due
 
--- where it is the Q_DIR of a packet, whether its packet collides with one of these; elsewhere nothing asks
-abbrev pub Twice : State → ℕ → List Earlier → Bool → Type 0
-Twice s v before r = ruleAt (s .todo .node) ≡ direction → s .level ≡ Packet → r ≡ collidesAmong clash (s .id) v before
+-- in a packet, and not in the CTCS packet inside one
+abbrev pub isPacket : Level → Bool
+isPacket Header = false
+isPacket Packet = true
+isPacket User = false
+
+-- it is the Q_DIR of a packet, by which packets collide
+abbrev pub directs : State → Bool
+directs s = eqb (codeOf (fieldAt (s .todo .node) .sense)) 9 && isPacket (s .level)
+
+-- and that packet, if it holds v, collides with one of these
+abbrev pub repeats : State → ℕ → List Earlier → Bool
+repeats s v before = directs s && collidesAmong clash (s .id) v before

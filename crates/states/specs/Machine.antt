@@ -124,7 +124,8 @@ pub record Slight (k v : ℕ) : Type 0 where
   pub unkept : 2 < codeOf (fieldAt k .sense) → 9 < codeOf (fieldAt k .sense)
   pub allowed : 9 < codeOf (fieldAt k .sense) → (lowOf (fieldAt k) ≤ v) × (v ≤ highOf (fieldAt k))
 
--- the same by the rest of the row of a field: the range has its high end in the lowest four bits, and begins at 0, or at 1 from 48 on
+-- a test that holds only of such a value, by the rest of its field's row: the range has its high end in the lowest four bits, and begins at 0,
+-- or at 1 from 48 on. A range that begins elsewhere does not pass, and is left to the machine
 abbrev pub slight : ℕ → ℕ → Bool
 slight r v = ltb r 10 || leb v (r % 16) && (ltb r 48 || leb r 51 && ltb 0 v)
 
@@ -233,7 +234,6 @@ pub record Noted (s : State) (c v : ℕ) (r : State) : Type 0 where
   pub same : r .todo ≡ s .todo
   pub first : r .start ≡ s .start
   pub second : s .userstart ≤ s .at → r .userstart ≤ s .at
-  pub small : s .id < 256 → (c ≡ 7 → v < 256) → r .id < 256
 
 -- ---- one field
 
@@ -242,7 +242,6 @@ pub record Sound (s : State) : Type 0 where
   pub tidy : Tidy (s .todo)
   pub first : s .start ≤ s .at
   pub second : s .userstart ≤ s .at
-  pub small : s .id < 256
 
 abbrev pub Kept : ℕ → Outcome → Type 0
 Kept n (Go s) = Sound s × (s .at ≡ n)
@@ -284,10 +283,3 @@ pub record Stepped (s : State) (v : ℕ) (twice : Bool) (r : Outcome) : Type 0 w
 pub record Beginning (r : State) : Type 0 where
   pub right : view [] r ≡ begun
   pub sound : Sound r
-
--- ---- the Q_DIR of a packet
-
--- whether the Q_DIR of a packet is due: there packets collide, and one more is noted
-pub record Directing (s : State) (r : Bool) : Type 0 where
-  pub yes : r ≡ true → (ruleAt (s .todo .node) ≡ direction) × (s .level ≡ Packet) × (fieldAt (s .todo .node) .width ≡ 2)
-  pub no : r ≡ false → (ruleAt (s .todo .node) ≡ direction) → s .level ≡ Packet → ⊥

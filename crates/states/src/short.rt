@@ -24,7 +24,8 @@ pub fn unread(a: u32, r: u32, told: bool) -> bool
     r < 3
 }
 
-// Whether nothing is kept of a value and it keeps its rule, which is a range or none. r: the rest of its field's row.
+// Whether nothing is kept of a value and it keeps its rule, which is none, or a range that begins at 0 or 1: any other is left to the machine. r: the
+// rest of the row of its field.
 pub fn slight(r: u32, v: u64) -> bool
     ensures { λ x. ⌜ x ≡ slight r v ⌝ }
 {

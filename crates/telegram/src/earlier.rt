@@ -6,8 +6,8 @@ ghost use lib.Dec.{eqb};
 ghost use lib.ListN.{length};
 ghost use Rattle.format.specs.Rules.{clash, collidesAmong};
 ghost use Rattle.format.specs.Table.{words};
-ghost use Rattle.states.specs.Lookback.{packetsBefore, packetsAmong, begins, Twice};
-ghost use Rattle.states.specs.Machine.{InTable, Tidy, Directing, todoOf};
+ghost use Rattle.states.specs.Lookback.{packetsBefore, packetsAmong, begins, directs, repeats};
+ghost use Rattle.states.specs.Machine.{InTable, Tidy, todoOf};
 use crate::rows::act;
 use crate::rows::code;
 use crate::todo::advance;
@@ -20,13 +20,13 @@ use states::codes::END;
 use states::collides_in_bits;
 use states::meets;
 
-// The fields of a header.
-const HEADER: usize = 10;
+// The fields of a header, which are as many values.
+const FRONT: usize = 10;
 
 // Whether v is the Q_DIR of a packet that collides with one before it, in the bits of s.
 pub(crate) fn repeated_in_bits(rows: &[u16; 213], s: &[u8], st: State, v: u64) -> bool
     requires { ⌜ InTable (now rows) (st .todo .node) ⌝ }
-    ensures { λ r. ⌜ Twice st v (packetsBefore (now (s .entry)) (st .start)) r ⌝ }
+    ensures { λ r. ⌜ r ≡ repeats st v (packetsBefore (now (s .entry)) (st .start)) ⌝ }
 {
     if !directing(rows, st) {
         return false;
@@ -43,7 +43,7 @@ pub(crate) fn repeated_in_values(
     v: u64,
 ) -> bool
     requires { ⌜ InTable (now rows) (st .todo .node) × (i ≤ length (now values)) ⌝ }
-    ensures { λ r. ⌜ Twice st v (packetsAmong (now (values .entry)) i) r ⌝ }
+    ensures { λ r. ⌜ r ≡ repeats st v (packetsAmong (now (values .entry)) i) ⌝ }
 {
     if !directing(rows, st) {
         return false;
@@ -54,7 +54,7 @@ pub(crate) fn repeated_in_values(
 // Whether the field that is due is the Q_DIR of a packet, by which packets collide.
 fn directing(rows: &[u16; 213], s: State) -> bool
     requires { ⌜ InTable (now rows) (s .todo .node) ⌝ }
-    ensures { λ r. ⌜ Directing s r ⌝ }
+    ensures { λ r. ⌜ r ≡ directs s ⌝ }
 {
     let t = s.todo;
     let k = t.node;
@@ -69,8 +69,8 @@ fn directing(rows: &[u16; 213], s: State) -> bool
     }
 }
 
-// Whether a packet with this NID_PACKET and Q_DIR collides with one of those among the first n values. These are gone over again from the header's end
-// on: an L_PACKET counts bits, and does not say how many values its packet has.
+// Whether a packet with this NID_PACKET and Q_DIR collides with one of those among the first n values. These are gone over again from the
+// header's end on: an L_PACKET counts bits, and does not say how many values its packet has.
 fn collides_in_values(rows: &[u16; 213], values: &[u64], n: usize, id: u64, dir: u64) -> bool
     requires { ⌜ (now rows ≡ words) × (n ≤ length (now values)) ⌝ }
     ensures { λ r. ⌜ r ≡ collidesAmong clash id dir (packetsAmong (now (values .entry)) n) ⌝ }
@@ -87,7 +87,7 @@ fn collides_in_values(rows: &[u16; 213], values: &[u64], n: usize, id: u64, dir:
         left: 0,
         outer: 0,
     };
-    let mut i = HEADER;
+    let mut i = FRONT;
     while i < last {
         let v = values[i];
         if packet_meets(rows, t, v, values[i + 1], id, dir) {

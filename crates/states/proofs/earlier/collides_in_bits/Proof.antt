@@ -3,7 +3,8 @@
 use mathlib.Core.Path.{sym, _∙_}
 use Prim.Native.Nat.{_-_}
 use borrow.Author.Needs.{needs}
-use Rattle.states.proofs.Hopping.{told, none-told, Hopping, hopping-first, hops-end, hops-met, hops-past, hops-on, hops-less}
+use Rattle.states.proofs.Colliding.{told, none-told}
+use Rattle.states.proofs.Hopping.{Hopping, hopping-first, hops-end, hops-met, hops-past, hops-on, hops-less}
 use Rattle.states.proofs.earlier.collides_in_bits.Statement.{statement}
 use Rattle.states.proofs.earlier.collides_in_bits.Tie as tie
 

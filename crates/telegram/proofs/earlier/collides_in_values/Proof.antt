@@ -4,7 +4,7 @@ use mathlib.Core.Path.{_≡_, sym, _∙_}
 use Prim.Native.Nat.{_+_, _-_}
 use native.Mathlib.Omega.{arith}
 use borrow.Author.Needs.{needs}
-use Rattle.states.proofs.Hopping.{told, none-told}
+use Rattle.states.proofs.Colliding.{told, none-told}
 use Rattle.states.proofs.Walking.{Walking, walking-first, walks-none, walks-end, walks-met, walks-over, walks-on}
 use Rattle.telegram.proofs.earlier.collides_in_values.Statement.{statement}
 use Rattle.telegram.proofs.earlier.collides_in_values.Tie as tie

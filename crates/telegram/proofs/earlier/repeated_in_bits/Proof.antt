@@ -1,6 +1,7 @@
--- `telegram::earlier::repeated_in_bits` meets its contract: at a packet's Q_DIR the packets before are looked at; elsewhere nothing asks. Assumes nothing.
+-- `telegram::earlier::repeated_in_bits` meets its contract: at a packet's Q_DIR the bits before are looked over. Assumes nothing.
 use borrow.Author.Needs.{needs}
-use borrow.Author.Tests.{not-true}
+use borrow.Author.Tests.{not-true, not-false}
+use Rattle.states.proofs.Directions.{repeats-not, repeats-by}
 use Rattle.telegram.proofs.earlier.repeated_in_bits.Statement.{statement}
 use Rattle.telegram.proofs.earlier.repeated_in_bits.Tie as tie
 
@@ -8,13 +9,13 @@ directing-requires : tie.Need-directing-requires
 directing-requires c κs = search needs
 
 returns : tie.Need-returns
-returns c = λ k l. absurd (c .before .directing .ensures .no (not-true _ (c .if1 .taken)) k l)
+returns c = repeats-not (c .before .before .before .args .st) (c .before .before .before .args .v) _ (c .before .directing .ensures) (not-true _ (c .if1 .taken))
 
 collides-in-bits-requires : tie.Need-collides-in-bits-requires
 collides-in-bits-requires c κs = search needs
 
 returns-2 : tie.Need-returns-2
-returns-2 c = λ k l. c .collides-in-bits .ensures
+returns-2 c = repeats-by (c .before .before .before .before .args .st) (c .before .before .before .before .args .v) _ (c .before .before .directing .ensures) (not-false _ (c .before .if1 .left)) (c .collides-in-bits .ensures)
 
 pub repeated-in-bits-spec : {M : Type 1} → statement M
 repeated-in-bits-spec = tie.close (tie.spec directing-requires returns collides-in-bits-requires returns-2)

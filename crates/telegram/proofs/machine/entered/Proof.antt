@@ -2,7 +2,7 @@
 use mathlib.Core.Path.{sym, _∙_}
 use native.Mathlib.Omega.{arith}
 use borrow.Author.Needs.{needs}
-use Rattle.states.proofs.Stepping.{entered-mark, entered-on, width-in, packet-small}
+use Rattle.states.proofs.Stepping.{entered-mark, entered-on, width-in}
 use Rattle.format.specs.Table.{fieldAt}
 use Rattle.telegram.proofs.machine.entered.Statement.{statement}
 use Rattle.telegram.proofs.machine.entered.Tie as tie
@@ -42,7 +42,6 @@ settled-requires c κs =
         tidy = (rw (c .before .before .before .before .before .t .given .1) at (c .before .before .before .before .before .before .before .advance .ensures)) .tidy;
         first = omega (arith, a .pre .sound .first, n .here, n .first);
         second = omega (arith, n .second (a .pre .sound .second), n .here);
-        small = n .small (a .pre .sound .small) (λ e. packet-small (a .args .s .todo .node) (a .args .v) (a .pre .sound .tidy .inside) (sym (c .before .before .before .code .ensures) ∙ e) (a .pre .fits));
       };
     }
 

@@ -3,7 +3,7 @@
 use mathlib.Core.Path.{sym, _∙_}
 use native.Mathlib.Omega.{arith}
 use borrow.Author.Needs.{needs}
-use Rattle.format.proofs.Rows.{rest-back, rest-none}
+use Rattle.format.proofs.Rests.{rest-back, rest-none}
 use Rattle.telegram.proofs.rows.back.Statement.{statement}
 use Rattle.telegram.proofs.rows.back.Tie as tie
 

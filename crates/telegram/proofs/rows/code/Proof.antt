@@ -3,7 +3,7 @@
 use mathlib.Core.Path.{ap₂, _∙_}
 use borrow.Author.Needs.{needs}
 use Rattle.format.specs.Table.{codeBy}
-use Rattle.format.proofs.Rows.{rest-code}
+use Rattle.format.proofs.Rests.{rest-code}
 use Rattle.telegram.proofs.rows.code.Statement.{statement}
 use Rattle.telegram.proofs.rows.code.Tie as tie
 

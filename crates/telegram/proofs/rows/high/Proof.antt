@@ -3,7 +3,7 @@
 use mathlib.Core.Path.{ap, _∙_}
 use borrow.Author.Needs.{needs}
 use Rattle.format.specs.Table.{highBy}
-use Rattle.format.proofs.Rows.{rest-high}
+use Rattle.format.proofs.Rests.{rest-high}
 use Rattle.telegram.proofs.rows.high.Statement.{statement}
 use Rattle.telegram.proofs.rows.high.Tie as tie
 

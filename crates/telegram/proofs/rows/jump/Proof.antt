@@ -3,7 +3,8 @@
 use mathlib.Core.Path.{sym, _∙_}
 use native.Mathlib.Omega.{arith}
 use borrow.Author.Needs.{needs}
-use Rattle.format.proofs.Rows.{if-jump, rest-ahead, rest-small}
+use Rattle.format.proofs.Rests.{rest-ahead, rest-small}
+use Rattle.format.proofs.Rows.{if-jump}
 use Rattle.telegram.proofs.rows.jump.Statement.{statement}
 use Rattle.telegram.proofs.rows.jump.Tie as tie
 

@@ -3,7 +3,7 @@
 use mathlib.Core.Path.{ap, _∙_}
 use borrow.Author.Needs.{needs}
 use Rattle.format.specs.Table.{lowBy}
-use Rattle.format.proofs.Rows.{rest-low}
+use Rattle.format.proofs.Rests.{rest-low}
 use Rattle.telegram.proofs.rows.low.Statement.{statement}
 use Rattle.telegram.proofs.rows.low.Tie as tie
 

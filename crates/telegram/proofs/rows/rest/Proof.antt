@@ -2,7 +2,8 @@
 -- Assumes nothing.
 use native.Mathlib.Omega.{arith}
 use borrow.Author.Needs.{needs}
-use Rattle.format.proofs.Rows.{word-rest, rest-small}
+use Rattle.format.proofs.Rests.{rest-small}
+use Rattle.format.proofs.Rows.{word-rest}
 use Rattle.telegram.proofs.rows.rest.Statement.{statement}
 use Rattle.telegram.proofs.rows.rest.Tie as tie
 

@@ -6,7 +6,8 @@ use native.Mathlib.Numerals.{add-one}
 use native.Mathlib.Omega.{arith}
 use borrow.Author.Needs.{needs}
 use Rattle.format.specs.Table.{jump}
-use Rattle.format.proofs.Rows.{jump-in, group-out}
+use Rattle.format.proofs.Rests.{group-out}
+use Rattle.format.proofs.Rows.{jump-in}
 use Rattle.states.proofs.Moves.{turns-none, turns-out, turns-again}
 use Rattle.telegram.proofs.todo.turned.Statement.{statement}
 use Rattle.telegram.proofs.todo.turned.Tie as tie
