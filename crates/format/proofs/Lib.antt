@@ -1,5 +1,4 @@
--- What is proved about the definitions of document 01 apart from any code.
-pub mod Choice
+-- What is proved about the definitions of document 01.
 pub mod Rows
 pub mod Rests
 pub mod Heads

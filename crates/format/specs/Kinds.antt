@@ -7,7 +7,7 @@ use Rattle.format.specs.Fields.{Q-DIR, L-PACKET, Q-SCALE}
 use Rattle.format.specs.Packets.{Items, Packet, etcs, ctcs}
 use Rattle.format.specs.Packets.Items.{end, nest, send, sendIf, sendEither, sendTimes}
 use Rattle.format.specs.Table.{etcsRow, ctcsRow}
-use Rattle.format.specs.declared.packets.Start.{Start}
+use Rattle.format.specs.declared.Start.{Start}
 
 abbrev pub startsAt : ℕ → ℕ → Start
 startsAt k h = record { row = k; head = h }

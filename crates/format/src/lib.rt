@@ -1,10 +1,5 @@
-// The refusals of document 01, the answers that carry them, and the kinds of packets.
-ghost use mathlib.Core.Path.{_≡_};
-ghost use Rattle.format.specs.Refusals.{numberOf};
-
-pub mod fields;
-pub mod packets;
-pub mod table;
+// The types that document 01's definitions speak of: the refusals, the answers that carry them, and where a packet begins. The definitions
+// are under specs/, and the code that computes them in the crates `table` and `packets`.
 
 // The kinds of refusal; `numberOf` in specs/Refusals.antt gives document 01's number of each.
 pub enum Kind {
@@ -44,23 +39,8 @@ pub enum Answer {
     Refused(Refusal),
 }
 
-// Document 01's number of a refusal.
-pub fn number(kind: Kind) -> u64
-    ensures { λ r. ⌜ r ≡ numberOf kind ⌝ }
-{
-    match kind {
-        Kind::Room => 1,
-        Kind::Size => 2,
-        Kind::Padding => 3,
-        Kind::Header => 4,
-        Kind::Ended => 5,
-        Kind::Unknown => 6,
-        Kind::Value => 7,
-        Kind::Length => 8,
-        Kind::Direction => 9,
-        Kind::Repeated => 10,
-        Kind::Trailing => 11,
-        Kind::Wide => 12,
-        Kind::Full => 13,
-    }
+// Where a packet's fields begin in the table of rows, and the bits of its head from the identifier on; both 0 where there is none.
+pub struct Start {
+    pub row: usize,
+    pub head: usize,
 }

@@ -19,7 +19,7 @@ pub(crate) fn tell(out: &mut [u8], at: usize, n: usize, answer: Answer) -> usize
         Answer::Refused(r) => {
             let word = append(out, at, b"refused ");
             let kind = r.kind;
-            two(out, word, format::number(kind), r.place as u64)
+            two(out, word, table::number(kind), r.place as u64)
         }
     }
 }

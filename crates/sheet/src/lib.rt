@@ -26,7 +26,7 @@ pub fn number(reply: Reply) -> u64
         Reply::Done(_) => 0,
         Reply::Refused(r) => {
             let kind = r.kind;
-            format::number(kind)
+            table::number(kind)
         }
         Reply::Row(_) => 20,
     }

@@ -8,7 +8,7 @@ use native.Mathlib.Omega.{arith}
 use Rattle.format.specs.Rules.{next, orEnd}
 use Rattle.format.specs.Table.{act, jump, up, node, etcsRow, ctcsRow}
 use Rattle.format.specs.Kinds.{etcsStart, ctcsStart}
-use Rattle.format.specs.declared.packets.Start.{Start}
+use Rattle.format.specs.declared.Start.{Start}
 use Rattle.format.proofs.Rows.{three-up, end-jump, up-in, up-repeats, group-starts, node-end, rootAt, etcs-root, ctcs-root, etcs-in, ctcs-in, etcs-up, ctcs-up, none-act, none-up}
 use Rattle.states.specs.Machine.{todoOf, Tidy, Moved, Turned, Advanced}
 use Rattle.states.specs.declared.Todo.{Todo}

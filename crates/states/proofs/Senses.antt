@@ -14,7 +14,7 @@ use Rattle.format.specs.Rules.{Context, Terms, ruleOf, broken, misdirected, unl
 use Rattle.format.specs.Rules.Level.{inHeader, inPacket, inUser}
 use Rattle.format.specs.Table.{codeOf, lowOf, highOf, etcsRow, ctcsRow}
 use Rattle.format.specs.Kinds.{etcsStart, ctcsStart}
-use Rattle.format.specs.declared.packets.Start.{Start}
+use Rattle.format.specs.declared.Start.{Start}
 use Rattle.format.specs.declared.Kind.the-variants.{Header, Unknown, Value, Direction, Repeated}
 use Rattle.format.proofs.Rows.{rootAt, etcs-root, ctcs-root}
 use Rattle.states.specs.Machine.{senseOf}

@@ -1,24 +1,10 @@
-// Where a telegram stands between two fields: the types of it, what they stand for and what is answered (specs/), all that is proved of that
-// (proofs/), and the functions over it that need no table.
+// Where a telegram stands between two fields: the types of it, what they stand for and what is answered (specs/), and all that is proved of
+// that (proofs/). The functions over it stand in the crates above: `lookback`, `noting`, `short`, `telegram`.
 pub mod codes;
-mod earlier;
-mod packet;
-mod short;
-mod size;
-mod views;
 
 use bits::Cursor;
 use distance::Scale;
-pub use earlier::collides_in_bits;
-pub use earlier::meets;
 use format::Kind;
-pub use packet::closes;
-pub use packet::noted;
-pub use packet::spot;
-pub use short::slight;
-pub use short::unread;
-pub use size::sized;
-pub use views::counts;
 
 // What is to be sent: the items of row node; at the end of their group, the group left times more; and at the end of the group
 // around that, that group outer times more.

@@ -9,8 +9,8 @@ use format::Answer;
 use format::Kind;
 use format::Refusal;
 use format::Spot;
+use noting::spot;
 use states::State;
-use states::spot;
 
 pub(crate) fn refuse(kind: Kind, place: usize) -> Answer
     ensures { λ r. ⌜ r ≡ Refused (record { kind = kind; place = place }) ⌝ }

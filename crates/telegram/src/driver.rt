@@ -10,13 +10,13 @@ use crate::todo::moved;
 use crate::todo::turned;
 use bits::Cursor;
 use bits::Skipped;
+use short::slight;
+use short::unread;
 use states::Easy;
 use states::Reach;
 use states::Todo;
 use states::codes::END;
 use states::codes::SEND;
-use states::slight;
-use states::unread;
 
 // Goes past fields unread, through the cursor, up to one that has to be read, that is the last of its packet or of its list, or that would end
 // past bit n. What follows a field is told apart here in place, so that the processor can guess it.

@@ -11,14 +11,14 @@ ghost use Rattle.states.specs.Machine.{InTable, Tidy, todoOf};
 use crate::rows::act;
 use crate::rows::code;
 use crate::todo::advance;
+use lookback::collides_in_bits;
+use lookback::meets;
 use states::Ahead;
 use states::Level;
 use states::State;
 use states::Todo;
 use states::codes::DIRECTION;
 use states::codes::END;
-use states::collides_in_bits;
-use states::meets;
 
 // The fields of a header, which are as many values.
 const FRONT: usize = 10;

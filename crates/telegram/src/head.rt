@@ -7,13 +7,12 @@ use crate::rows::act;
 use bits::Cursor;
 use bits::Skipped;
 use bits::Taken;
-use format::packets;
+use lookback::collides_in_bits;
 use states::Begun;
 use states::Level;
 use states::State;
 use states::Todo;
 use states::codes::END;
-use states::collides_in_bits;
 
 // The row of an ETCS-44 in which its CTCS packet is due: no other packet has one.
 const CARRIER: usize = 87;

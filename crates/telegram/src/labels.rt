@@ -12,7 +12,6 @@ use crate::todo::advance;
 use crate::writer::measure;
 use format::Answer;
 use format::Kind;
-use format::table;
 use states::Ahead;
 use states::Todo;
 use states::codes::END;
@@ -42,7 +41,7 @@ fn name(values: &[u64], fields: &mut [u8])
     ensures { λ r. ⌜ Labelled (now (values .entry)) (now (fields .entry)) (now (fields .exit)) ⌝ }
 {
     let rows = table::rows();
-    let numbers = format::fields::fields();
+    let numbers = table::fields();
     let mut t = Todo {
         node: 1,
         left: 0,

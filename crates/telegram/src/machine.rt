@@ -8,15 +8,15 @@ use crate::rows::width;
 use crate::todo::advance;
 use crate::verdict::judge;
 use format::Kind;
+use noting::closes;
+use noting::noted;
 use states::Ahead;
 use states::Level;
 use states::Outcome;
 use states::State;
 use states::Todo;
 use states::Verdict;
-use states::closes;
 use states::codes::END;
-use states::noted;
 
 // ---- one field
 

@@ -27,13 +27,12 @@ use distance::Steps;
 use distance::Told;
 use format::Answer;
 use format::Kind;
-use format::table;
+use short::counts;
 use states::Ahead;
 use states::Look;
 use states::Retold;
 use states::Todo;
 use states::View;
-use states::counts;
 
 // Writes the normal form of a telegram into out, and answers its n. A refusal leaves out as it was.
 pub fn normalise(s: &[u8], n: usize, out: &mut [u8]) -> Answer

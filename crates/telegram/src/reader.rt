@@ -26,15 +26,14 @@ use bits::Cursor;
 use bits::Taken;
 use format::Answer;
 use format::Kind;
-use format::table;
+use noting::closes;
+use short::sized;
 use states::Ahead;
 use states::Begun;
 use states::Easy;
 use states::Outcome;
 use states::State;
 use states::Todo;
-use states::closes;
-use states::sized;
 
 // Whether the bytes and n are a telegram: Accepted with the count of its values, or its refusal.
 pub fn check(s: &[u8], n: usize) -> Answer

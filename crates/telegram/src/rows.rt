@@ -6,7 +6,6 @@ ghost use mathlib.Core.Path.{_≡_};
 ghost use Prim.Native.Nat.{_<_};
 ghost use Rattle.format.specs.Table.{act, rest, fieldAt, jump, codeOf, lowOf, highOf};
 ghost use Rattle.states.specs.Machine.{InTable};
-use format::table;
 use states::codes::IF;
 
 pub(crate) fn act(rows: &[u16; 213], k: usize) -> u32

@@ -5,7 +5,6 @@ ghost use Rattle.states.specs.Machine.{InTable, Tidy, Followed, Moved, Turned, 
 use crate::rows::act;
 use crate::rows::back;
 use crate::rows::jump;
-use format::packets;
 use states::Ahead;
 use states::Todo;
 use states::codes::END;

@@ -11,7 +11,6 @@ use crate::rows::code;
 use crate::rows::high;
 use crate::rows::low;
 use format::Kind;
-use format::packets;
 use states::Level;
 use states::State;
 use states::Verdict;

@@ -14,7 +14,6 @@ use crate::state::begin;
 use crate::todo::advance;
 use format::Answer;
 use format::Kind;
-use format::table;
 use states::Ahead;
 use states::Outcome;
 use states::Todo;

@@ -119,7 +119,7 @@ fn refused(out: &mut [u8; 4096], q: Queue, r: Refusal) -> Queue
 {
     let kind = r.kind;
     let a = say(out, q, b"refused");
-    let b = number(out, a, format::number(kind));
+    let b = number(out, a, table::number(kind));
     let c = number(out, b, r.place as u64);
     say(out, c, b"\n")
 }

@@ -1,0 +1,2 @@
+-- What is proved about the identifiers apart from any code.
+pub mod Choice

@@ -1,0 +1,52 @@
+// The short ways: which fields need not be read, and which values need nothing of where a telegram stands. Both go by the rest of a row, as
+// `table` packs it. Beside them how a field counts (`views`) and how long a telegram may be (`size`), which need no more than that.
+ghost use mathlib.Core.Path.{_≡_};
+ghost use Rattle.states.specs.Machine.{unread, slight};
+
+mod size;
+mod views;
+
+pub use size::sized;
+use states::codes::SEND;
+pub use views::counts;
+
+// Whether a field steers nothing and may be gone past: in a telegram that is told again, where it is no scale and no distance; and else,
+// where it may hold anything and nothing is kept of it. a: what stands in its row. r: the rest of its row.
+pub fn unread(a: u32, r: u32, told: bool) -> bool
+    ensures { λ x. ⌜ x ≡ unread told a r ⌝ }
+{
+    if a != SEND {
+        return false;
+    }
+    if told {
+        if r == 0 {
+            return true;
+        }
+        if r < 3 {
+            return false;
+        }
+        return r / 16 != 2;
+    }
+    r < 3
+}
+
+// Whether nothing is kept of a value and it keeps its rule, which is none, or a range that begins at 0 or 1: any other is left to the machine. r: the
+// rest of the row of its field.
+pub fn slight(r: u32, v: u64) -> bool
+    ensures { λ x. ⌜ x ≡ slight r v ⌝ }
+{
+    if r < 10 {
+        return true;
+    }
+    let high = (r % 16) as u64;
+    if high < v {
+        return false;
+    }
+    if r < 48 {
+        return true;
+    }
+    if 51 < r {
+        return false;
+    }
+    0 < v
+}
