@@ -1,0 +1,5 @@
+-- What the code of this crate stands on, and what its promises say.
+pub mod Marks
+pub mod Figures
+pub mod Hexes
+pub mod Forms

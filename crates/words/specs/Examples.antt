@@ -1,0 +1,1 @@
+-- Worked examples of the definitions, each computed by the checker. Assumes nothing.
