@@ -1,14 +1,16 @@
 -- The two forms of a telegram word: what each way through the code answers, that no word has both, and that 128 bytes are room for every
 -- word. Assumes nothing.
-use mathlib.Core.Path.{_≡_, refl, sym, ap, _∙_}
+use mathlib.Core.Path.{_≡_, refl, sym, ap, _∙_, subst}
 use mathlib.Core.Bool.{Bool, true, false, cond, _&&_}
 use mathlib.Core.List.{List, [], _∷_, _++_}
 use mathlib.Core.Option.{Option, some, none}
 use Prim.Native.Nat.{ℕ, suc, _+_, _-_, _*_, _/_, _≤_, _<_}
+use native.Mathlib.Numerals.{add-one}
 use native.Mathlib.Omega.{arith}
 use borrow.Author.Tests.{le-leb, lt-leb, leb-true, leb-false, eqb-true}
 use lib.Dec.{leb, eqb}
-use lib.ListN.{length, take, drop, drop-of-length-le}
+use lib.ListN.{length, take, drop, length-drop, drop-of-length-le}
+use lib.Seq.{take-all, length-take-le}
 use Rattle.bits.specs.Bits.{bytesFor, bytesOf}
 use Rattle.bits.proofs.Bytes.{length-bytesOf}
 use Rattle.packing.specs.Packing.{isBit, binary, bitsIn, bytesOver, packedOf, packInto, Pack}
@@ -17,7 +19,7 @@ use Rattle.packing.specs.declared.Packed.{Packed}
 use Rattle.packing.specs.declared.Packed.the-variants as packed
 use Rattle.packing.proofs.Lines.{length-bitsIn}
 use Rattle.words.specs.Words.{upTo, numberIn}
-use Rattle.words.specs.Telegrams.{Telegram, telegram, within, bitsForm, inPairs, bytesIn, hexForm, either, telegramIn, lentOf, lentOver, Lends}
+use Rattle.words.specs.Telegrams.{Telegram, telegram, within, bitsForm, hexed, inPairs, bytesIn, counted, hexForm, either, telegramIn, lentOf, lentOver, Lends}
 use Rattle.words.specs.declared.Figure.{Figure}
 use Rattle.words.specs.declared.Figure.the-variants as figure
 use Rattle.words.specs.declared.Lent.{Lent}
@@ -85,26 +87,72 @@ module _ (word : List ℕ) where
           (leb-true (bytesFor (length word)) (length before) r)
 
       -- what was packed is what is lent
-      pub bits-lends : (answered : Packed) (after : List ℕ) → Pack word before answered after → Lends (bitsForm word) before (lentAs answered) after
+      bits-lends : (answered : Packed) (after : List ℕ) → Pack word before answered after → Lends (bitsForm word) before (lentAs answered) after
       unfolding packedOf packInto
-      bits-lends answered after p =
-          rw (p .answer, p .contents) (bits-by (binary word) (packing.roomy word before) refl refl)
+      bits-lends answered after p = rw (p .answer, p .contents) (bits-by (binary word) (packing.roomy word before) refl refl)
+
+      module _ (answered : Packed) (after : List ℕ) (p : Pack word before answered after) where
+        pub bits-packed : (n k : ℕ) → answered ≡ packed.Bits n → k ≡ bytesFor n → Lends (bitsForm word) before (Bytes k n) after
+        bits-packed n k e s =
+            subst (λ (m : ℕ). Lends (bitsForm word) before (Bytes m n) after) (sym s)
+            (subst (λ (a : Packed). Lends (bitsForm word) before (lentAs a) after) e (bits-lends answered after p))
+
+        pub bits-other : answered ≡ packed.Other → Lends (bitsForm word) before Not after
+        bits-other e = subst (λ (a : Packed). Lends (bitsForm word) before (lentAs a) after) e (bits-lends answered after p)
+
+        pub bits-roomless : answered ≡ packed.Room → Lends (bitsForm word) before Room after
+        bits-roomless e = subst (λ (a : Packed). Lends (bitsForm word) before (lentAs a) after) e (bits-lends answered after p)
 
 -- ---- HEX:n, by the place of the first colon
 
+module _ (word : List ℕ) (colon : ℕ) (p : inPairs (take colon word) ≡ true) (l : colon ≤ length word) where
+  twice : 2 * (colon / 2) ≡ colon
+  twice = omega (arith, pairs-told (take colon word) p .1, length-take-le colon word l)
+
+  -- what `fill` asks for
+  pub hex-even : (2 * (colon / 2) ≤ length word) × (hexed (take (2 * (colon / 2)) word) ≡ true)
+  hex-even = (omega (arith, twice), rw twice (pairs-told (take colon word) p .2))
+
 module _ (word : List ℕ) (colon : ℕ) (at : colon ≡ upTo 58 word) where
-  pub hex-unpaired : inPairs (take colon word) ≡ false → hexForm word ≡ none
+  hex-unpaired : inPairs (take colon word) ≡ false → hexForm word ≡ none
   unfolding hexForm
   hex-unpaired h = rw (← at, h)
 
-  module _ (p : inPairs (take colon word) ≡ true) where
-    pub hex-unnumbered : numberIn (drop (suc colon) word) ≡ figure.Not → hexForm word ≡ none
-    unfolding hexForm
-    hex-unnumbered h = rw (← at, p, h)
+  -- the number is the rest of the word
+  rest : take (length word - (colon + 1)) (drop (colon + 1) word) ≡ drop (suc colon) word
+  rest =
+      take-all (length word - (colon + 1)) (drop (colon + 1) word) (rw (length-drop (colon + 1) word) (omega arith))
+      ∙ ap (λ (k : ℕ). drop k word) (add-one colon)
 
-    pub hex-is : (n : ℕ) → numberIn (drop (suc colon) word) ≡ figure.Is n → hexForm word ≡ some (telegram (bytesIn (take colon word)) n)
-    unfolding hexForm
-    hex-is n h = rw (← at, p, h)
+  module _ (before : List ℕ) where
+    pub hex-no-pairs : inPairs (take colon word) ≡ false → Lends (hexForm word) before Not before
+    hex-no-pairs h = lends-none (hexForm word) before (hex-unpaired h)
+
+    module _ (p : inPairs (take colon word) ≡ true) where
+      module _ (f : Figure) (e : f ≡ numberIn (take (length word - (colon + 1)) (drop (colon + 1) word))) where
+        hex-counted : hexForm word ≡ counted (bytesIn (take colon word)) f
+        unfolding hexForm
+        hex-counted = rw (← at, p, e, rest)
+
+        pub hex-no-number : f ≡ figure.Not → Lends (hexForm word) before Not before
+        hex-no-number h = lends-none (hexForm word) before (hex-counted ∙ ap (counted (bytesIn (take colon word))) h)
+
+        module _ (n : ℕ) (h : f ≡ figure.Is n) (l : colon < length word) where
+          hex-is : hexForm word ≡ some (telegram (bytesIn (take colon word)) n)
+          hex-is = hex-counted ∙ ap (counted (bytesIn (take colon word))) h
+
+          half : colon / 2 ≡ length (bytesIn (take colon word))
+          half = sym (length-bytesIn (take colon word) ∙ ap (λ (k : ℕ). k / 2) (length-take-le colon word (omega arith)))
+
+          pub hex-roomless : length before < colon / 2 → Lends (hexForm word) before Room before
+          hex-roomless s =
+              lends-roomless (hexForm word) before (telegram (bytesIn (take colon word)) n) hex-is (omega (arith, half))
+
+          pub hex-bytes : colon / 2 ≤ length before
+              → Lends (hexForm word) before (Bytes (colon / 2) n) (bytesIn (take (2 * (colon / 2)) word) ++ drop (colon / 2) before)
+          hex-bytes s =
+              rw (twice word colon p (omega arith))
+              (lends-bytes (hexForm word) before (telegram (bytesIn (take colon word)) n) hex-is (colon / 2) half s)
 
 -- ---- either
 
@@ -142,8 +190,11 @@ either-none : (t : Option Telegram) → either t none ≡ t
 either-none none = refl
 either-none (some x) = refl
 
-pub telegram-hex : (word : List ℕ) → upTo 58 word < length word → telegramIn word ≡ hexForm word
-telegram-hex word h = rw (colon-no-bits word h)
+module _ (word : List ℕ) {before after : List ℕ} {answered : Lent} where
+  pub lends-hex : upTo 58 word < length word → Lends (hexForm word) before answered after → Lends (telegramIn word) before answered after
+  lends-hex h = subst (λ (t : Option Telegram). Lends (either t (hexForm word)) before answered after) (sym (colon-no-bits word h))
 
-pub telegram-bits : (word : List ℕ) → length word ≤ upTo 58 word → telegramIn word ≡ bitsForm word
-telegram-bits word h = rw (no-colon-no-hex word h) (either-none (bitsForm word))
+  pub lends-bits : length word ≤ upTo 58 word → Lends (bitsForm word) before answered after → Lends (telegramIn word) before answered after
+  lends-bits h e =
+      subst (λ (t : Option Telegram). Lends (either (bitsForm word) t) before answered after) (sym (no-colon-no-hex word h))
+      (subst (λ (t : Option Telegram). Lends t before answered after) (sym (either-none (bitsForm word))) e)

@@ -1,67 +1,54 @@
+-- `words::of_hex` meets its contract: one law for each way out. Assumes nothing.
+use mathlib.Core.Path.{sym, _∙_}
+use native.Mathlib.Omega.{arith}
+use borrow.Author.Tests.{not-true, not-false}
+use denote.Ref.{now}
+use Rattle.words.proofs.Forms.{hex-even, hex-no-pairs, hex-no-number, hex-roomless, hex-bytes}
 use borrow.Author.Needs.{needs}
 use Rattle.words.proofs.of_hex.Statement.{statement}
 use Rattle.words.proofs.of_hex.Tie as tie
-use Rattle.words.proofs.of_hex.Reads as reads
-use Rattle.words.proofs.of_hex.Lts as lts
-use Rattle.words.proofs.fill.Reads as fill-reads
-use Rattle.words.proofs.in_pairs.Reads as in-pairs-reads
-use Rattle.words.proofs.number.Reads as number-reads
 
--- src/lib.rt:95:9
 in-pairs-requires : tie.Need-in-pairs-requires
 in-pairs-requires c κs = search needs
 
--- src/lib.rt:96:9
 returns : tie.Need-returns
-returns c = ?
+returns c = hex-no-pairs (now (c .before .before .before .before .args .word)) (c .before .before .before .before .args .colon) (c .before .before .before .before .pre .0) (now (c .before .before .before .before .args .out)) (sym (c .before .in-pairs .ensures) ∙ not-true _ (c .if1 .taken))
 
--- src/lib.rt:98:31
 add-number : tie.Need-add-number
 add-number c = search needs
 
--- src/lib.rt:98:25
 sub-number : tie.Need-sub-number
 sub-number c = search needs
 
--- src/lib.rt:98:25
 part-number-start : tie.Need-part-number-start
 part-number-start c = search needs
 
--- src/lib.rt:98:25
 part-number-end : tie.Need-part-number-end
 part-number-end c = search needs
 
--- src/lib.rt:98:9
 number-requires : tie.Need-number-requires
 number-requires c κs = search needs
 
--- src/lib.rt:99:20
 enum-known-figure : tie.Need-enum-known-figure
 enum-known-figure c = search needs
 
--- src/lib.rt:100:9
 enum-told : tie.Need-enum-told
 enum-told c = search needs
 
--- src/lib.rt:100:9
 returns-2 : tie.Need-returns-2
-returns-2 c = ?
+returns-2 c = hex-no-number (now (c .before .before .before .before .before .before .before .before .args .word)) (c .before .before .before .before .before .before .before .before .args .colon) (c .before .before .before .before .before .before .before .before .pre .0) (now (c .before .before .before .before .before .before .before .before .args .out)) (sym (c .before .before .before .before .before .in-pairs .ensures) ∙ not-false _ (c .before .before .before .before .if1 .left)) (c .before .before .number .result) (c .before .before .number .ensures) (c .enum-told .given .1)
 
--- src/lib.rt:104:9
 returns-3 : tie.Need-returns-3
-returns-3 c = ?
+returns-3 c = hex-roomless (now (c .before .before .before .before .before .before .before .before .before .before .args .word)) (c .before .before .before .before .before .before .before .before .before .before .args .colon) (c .before .before .before .before .before .before .before .before .before .before .pre .0) (now (c .before .before .before .before .before .before .before .before .before .before .args .out)) (sym (c .before .before .before .before .before .before .before .in-pairs .ensures) ∙ not-false _ (c .before .before .before .before .before .before .if1 .left)) (c .before .before .before .before .number .result) (c .before .before .before .before .number .ensures) _ (c .before .before .figure .given .1) (c .before .before .before .before .before .before .before .before .before .before .pre .1) (omega arith)
 
--- src/lib.rt:106:5
 fill-requires : tie.Need-fill-requires
-fill-requires c κs = ?
+fill-requires c κs = let e = hex-even (now (c .before .before .before .before .before .before .before .before .before .before .before .args .word)) (c .before .before .before .before .before .before .before .before .before .before .before .args .colon) (sym (c .before .before .before .before .before .before .before .before .in-pairs .ensures) ∙ not-false _ (c .before .before .before .before .before .before .before .if1 .left)) (omega arith) in (e .0, e .1, omega arith)
 
--- src/lib.rt:91:1
 same-length : tie.Need-same-length
 same-length c = search needs
 
--- src/lib.rt:91:1
 returns-4 : tie.Need-returns-4
-returns-4 c = ?
+returns-4 c = rw (c .before .before .fill .ensures) (hex-bytes (now (c .before .before .before .before .before .before .before .before .before .before .before .before .before .before .args .word)) (c .before .before .before .before .before .before .before .before .before .before .before .before .before .before .args .colon) (c .before .before .before .before .before .before .before .before .before .before .before .before .before .before .pre .0) (now (c .before .before .before .before .before .before .before .before .before .before .before .before .before .before .args .out)) (sym (c .before .before .before .before .before .before .before .before .before .before .before .in-pairs .ensures) ∙ not-false _ (c .before .before .before .before .before .before .before .before .before .before .if1 .left)) (c .before .before .before .before .before .before .before .before .number .result) (c .before .before .before .before .before .before .before .before .number .ensures) _ (c .before .before .before .before .before .before .figure .given .1) (c .before .before .before .before .before .before .before .before .before .before .before .before .before .before .pre .1) (omega arith))
 
 pub of-hex-spec : {M : Type 1} → statement M
 of-hex-spec =
