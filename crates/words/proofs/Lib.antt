@@ -3,3 +3,5 @@ pub mod Marks
 pub mod Figures
 pub mod Hexes
 pub mod Forms
+pub mod Written
+pub mod Splits
