@@ -8,7 +8,7 @@ use Prim.Native.Nat.{ℕ, suc, _+_, _-_, _*_, _/_, _≤_, _<_}
 use native.Mathlib.Numerals.{add-one}
 use native.Mathlib.Omega.{arith}
 use borrow.Author.Tests.{le-leb, lt-leb, leb-true, leb-false, eqb-true}
-use lib.Dec.{leb, eqb}
+use lib.Dec.{eqb}
 use lib.ListN.{length, take, drop, length-drop, drop-of-length-le}
 use lib.Seq.{take-all, length-take-le}
 use Rattle.bits.specs.Bits.{bytesFor, bytesOf}
@@ -19,14 +19,13 @@ use Rattle.packing.specs.declared.Packed.{Packed}
 use Rattle.packing.specs.declared.Packed.the-variants as packed
 use Rattle.packing.proofs.Lines.{length-bitsIn}
 use Rattle.words.specs.Words.{upTo, numberIn}
-use Rattle.words.specs.Telegrams.{Telegram, telegram, within, bitsForm, hexed, inPairs, bytesIn, counted, hexForm, either, telegramIn, lentOf, lentOver, Lends}
+use Rattle.words.specs.Telegrams.{Telegram, telegram, within, bitsForm, hexed, inPairs, bytesIn, counted, hexForm, either, telegramIn, Lends}
 use Rattle.words.specs.declared.Figure.{Figure}
 use Rattle.words.specs.declared.Figure.the-variants as figure
 use Rattle.words.specs.declared.Lent.{Lent}
 use Rattle.words.specs.declared.Lent.the-variants.{Bytes, Not, Room}
-use Rattle.words.proofs.Marks.{up-within}
 use Rattle.words.proofs.Figures.{number-empty}
-use Rattle.words.proofs.Hexes.{pairs-told, length-bytesIn}
+use Rattle.words.proofs.Hexes.{no-and, pairs-told, length-bytesIn}
 
 -- ---- what is lent, by what the word is
 
@@ -155,10 +154,6 @@ module _ (word : List ℕ) (colon : ℕ) (at : colon ≡ upTo 58 word) where
               (lends-bytes (hexForm word) before (telegram (bytesIn (take colon word)) n) hex-is (colon / 2) half s)
 
 -- ---- either
-
-no-and : (b : Bool) → (b && false) ≡ false
-no-and true = refl
-no-and false = refl
 
 module _ (d : ℕ) (text : List ℕ) (ih : upTo 58 text < length text → binary text ≡ false) where
   colon-by : (b : Bool) → eqb d 58 ≡ b → cond b 0 (suc (upTo 58 text)) < suc (length text) → (isBit d && binary text) ≡ false

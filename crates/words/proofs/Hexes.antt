@@ -1,6 +1,6 @@
 -- Bytes of two characters each: what a character stands for, and what the loops over them go by. Assumes nothing.
 use mathlib.Core.Path.{_≡_, refl, sym, ap, ap₂, _∙_}
-use mathlib.Core.Bool.{Bool, true, false, cond, _&&_}
+use mathlib.Core.Bool.{Bool, true, false, _&&_}
 use mathlib.Core.List.{List, [], _∷_, _++_}
 use Prim.Native.Nat.{ℕ, zero, suc, _+_, _-_, _*_, _/_, _%_, _≤_, _<_}
 use native.Mathlib.Numerals.{add-one}
@@ -70,7 +70,7 @@ module _ (text : List ℕ) (end i : ℕ) (e : end ≤ length text) where
 
 -- ---- what `in_pairs` answers at each return
 
-no-and : (b : Bool) → (b && false) ≡ false
+pub no-and : (b : Bool) → (b && false) ≡ false
 no-and true = refl
 no-and false = refl
 

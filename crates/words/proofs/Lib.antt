@@ -5,3 +5,4 @@ pub mod Hexes
 pub mod Forms
 pub mod Written
 pub mod Splits
+pub mod Answers

@@ -1,5 +1,5 @@
 -- The first place of a character in a text, which ends a word or stands behind its bytes. Assumes nothing.
-use mathlib.Core.Path.{_≡_, refl, sym, ap, _∙_}
+use mathlib.Core.Path.{_≡_}
 use mathlib.Core.Bool.{Bool, true, false, cond}
 use mathlib.Core.List.{List, [], _∷_}
 use Prim.Native.Nat.{ℕ, suc, _+_, _≤_, _<_}
@@ -7,9 +7,9 @@ use native.Mathlib.Numerals.{add-one}
 use native.Mathlib.Omega.{arith}
 use borrow.Author.Tests.{eq-eqb, ne-eqb}
 use lib.Dec.{eqb}
-use lib.ListN.{length, drop, getD, drop-of-length-le}
+use lib.ListN.{length, drop, getD, length-drop, drop-of-length-le}
 use lib.Seq.{drop-cons}
-use Rattle.words.specs.Words.{upTo}
+use Rattle.words.specs.Words.{upTo, wordEnd}
 
 -- ---- the loop of `until`
 
@@ -27,8 +27,9 @@ module _ (c : ℕ) (text : List ℕ) (i : ℕ) where
     unfolding upTo
     up-on n = rw (drop-cons text i 0 h, ne-eqb (getD text i 0) c n, add-one i)
 
--- it is in the text, or where that ends
-pub up-within : (c : ℕ) (text : List ℕ) → upTo c text ≤ length text
+-- ---- what a caller may cut out
+
+up-within : (c : ℕ) (text : List ℕ) → upTo c text ≤ length text
 unfolding upTo
 up-within c [] = omega arith
 up-within c (d ∷ text) = by (eqb d c) (up-within c text)
@@ -36,3 +37,7 @@ up-within c (d ∷ text) = by (eqb d c) (up-within c text)
     by : (b : Bool) → upTo c text ≤ length text → cond b 0 (suc (upTo c text)) ≤ suc (length text)
     by true h = omega arith
     by false h = omega arith
+
+-- a word that begins in a line ends in it, and not before it begins
+pub end-within : (line : List ℕ) (at : ℕ) → at ≤ length line → (at ≤ wordEnd line at) × (wordEnd line at ≤ length line)
+end-within line at h = (omega arith, omega (arith, up-within 32 (drop at line), length-drop at line))

@@ -9,7 +9,7 @@ use borrow.Author.Tests.{eq-eqb, eqb-true}
 use lib.Dec.{eqb}
 use lib.ListN.{length, length-append}
 use Rattle.pieces.specs.Numbers.{decimal, Found, found, isDigit, digitsFrom, bounded, decimalIn}
-use Rattle.pieces.proofs.Decimals.{Fronted, decimal-is, decimal-read}
+use Rattle.pieces.proofs.Decimals.{decimal-is, decimal-read}
 use Rattle.words.specs.Words.{whole, numberIn}
 use Rattle.words.specs.declared.Figure.the-variants.{Is, Not}
 

@@ -2,12 +2,12 @@
 -- measure is how many bytes are left. Assumes nothing.
 use mathlib.Core.Path.{_≡_, refl, ap, _∙_}
 use mathlib.Core.List.{_++_}
-use Prim.Native.Nat.{ℕ, _+_, _-_, _*_, _≤_, _<_}
+use Prim.Native.Nat.{ℕ, _+_, _-_, _*_, _≤_}
 use native.Mathlib.Omega.{arith}
 use borrow.Author.Needs.{needs}
 use denote.Ref.{now}
-use lib.ListN.{length, take, drop, getD, length-set}
-use Rattle.words.specs.Telegrams.{hexOf, bytesIn}
+use lib.ListN.{length, take, drop, length-set}
+use Rattle.words.specs.Telegrams.{bytesIn}
 use Rattle.words.proofs.Hexes.{hexed-small, store-again}
 use Rattle.words.proofs.fill.Statement.{statement}
 use Rattle.words.proofs.fill.Tie as tie

@@ -1,11 +1,11 @@
 -- `words::in_pairs` meets its contract. The loop's invariant: the characters are hexadecimal if those from i on are. The measure is how many
 -- are left. Assumes nothing.
-use mathlib.Core.Path.{_≡_, refl, sym, _∙_}
-use Prim.Native.Nat.{ℕ, _-_, _≤_, _%_}
+use mathlib.Core.Path.{_≡_, sym, _∙_}
+use Prim.Native.Nat.{_-_, _≤_}
 use native.Mathlib.Omega.{arith}
 use borrow.Author.Needs.{needs}
 use denote.Ref.{now}
-use lib.ListN.{length, take, drop}
+use lib.ListN.{take, drop}
 use lib.Seq.{length-take-le}
 use Rattle.words.specs.Telegrams.{hexed, inPairs}
 use Rattle.words.proofs.Hexes.{hexed-end, hexed-on, hexed-off, pairs-long, pairs-odd, pairs-even}

@@ -1,6 +1,5 @@
 -- `words::number` meets its contract: the number at the front of the word counts if it ends where the word does. Assumes nothing.
 use mathlib.Core.Path.{sym, _∙_}
-use native.Mathlib.Omega.{arith}
 use borrow.Author.Needs.{needs}
 use denote.Ref.{now}
 use Rattle.words.proofs.Figures.{number-none, number-all, number-part}

@@ -1,7 +1,7 @@
 -- `words::until` meets its contract. The loop's invariant: the place that is looked for is as far behind i as from there on it is. The measure is
 -- how much of the text is left. Assumes nothing.
-use mathlib.Core.Path.{_≡_, refl, sym, _∙_}
-use Prim.Native.Nat.{ℕ, _+_, _-_}
+use mathlib.Core.Path.{_≡_, refl}
+use Prim.Native.Nat.{_+_, _-_}
 use native.Mathlib.Omega.{arith}
 use denote.Ref.{now}
 use lib.ListN.{length, drop}
