@@ -127,7 +127,8 @@ module _ (before : List ℕ) where
     lent-not e = let w = not-by t (sym (h .answer) ∙ e) in (w .0, h .contents ∙ w .1)
 
 -- "lends enough": with 128 bytes there is room for every word
-room-by : (before : List ℕ) (o : Option Telegram) → ((t : Telegram) → o ≡ some t → length (t .bytes) ≤ 128) → 128 ≤ length before → lentOf o before ≡ Room → ⊥
+room-by : (before : List ℕ) (o : Option Telegram) → ((t : Telegram) → o ≡ some t → length (t .bytes) ≤ 128) → 128 ≤ length before
+    → lentOf o before ≡ Room → ⊥
 room-by before none few h e = let z : _≡_ {A = ℕ} 0 1 = cc in omega arith
 room-by before (some x) few h e = by (roomy x before) refl e
   where

@@ -33,8 +33,10 @@ digit-requires c κs = search needs
 
 mul-out : tie.Need-mul-out Inv-loop μ-loop
 mul-out c =
-    let s = hexed-small (now (c .before .before .before .before .before .before .args .text)) (2 * c .before .before .before .before .before .before .args .k) (2 * c .before .before .before .loop .i) (c .before .before .before .before .before .before .pre .0) (c .before .before .before .before .before .before .pre .1) (omega arith) in
-    omega (arith, s, c .digit .ensures)
+    let s = c .before .before .before .before .before .before in
+    let l = c .before .before .before .loop in
+    let h = hexed-small (now (s .args .text)) (2 * s .args .k) (2 * l .i) (s .pre .0) (s .pre .1) (omega arith) in
+    omega (arith, h, c .digit .ensures)
 
 mul-digit-2 : tie.Need-mul-digit-2 Inv-loop μ-loop
 mul-digit-2 c = omega arith
@@ -50,9 +52,11 @@ digit-requires-2 c κs = search needs
 
 add-out : tie.Need-add-out Inv-loop μ-loop
 add-out c =
-    let s = hexed-small (now (c .before .before .before .before .before .before .before .before .args .text)) (2 * c .before .before .before .before .before .before .before .before .args .k) (2 * c .before .before .before .before .before .loop .i) (c .before .before .before .before .before .before .before .before .pre .0) (c .before .before .before .before .before .before .before .before .pre .1) (omega arith) in
-    let t = hexed-small (now (c .before .before .before .before .before .before .before .before .args .text)) (2 * c .before .before .before .before .before .before .before .before .args .k) (2 * c .before .before .before .before .before .loop .i + 1) (c .before .before .before .before .before .before .before .before .pre .0) (c .before .before .before .before .before .before .before .before .pre .1) (omega arith) in
-    omega (arith, s, t, c .before .before .digit .ensures, c .digit2 .ensures)
+    let s = c .before .before .before .before .before .before .before .before in
+    let l = c .before .before .before .before .before .loop in
+    let h = hexed-small (now (s .args .text)) (2 * s .args .k) (2 * l .i) (s .pre .0) (s .pre .1) (omega arith) in
+    let g = hexed-small (now (s .args .text)) (2 * s .args .k) (2 * l .i + 1) (s .pre .0) (s .pre .1) (omega arith) in
+    omega (arith, h, g, c .before .before .digit .ensures, c .digit2 .ensures)
 
 slice-write-out : tie.Need-slice-write-out Inv-loop μ-loop
 slice-write-out c = omega arith
@@ -64,19 +68,22 @@ loop-less : tie.Need-loop-less Inv-loop μ-loop
 loop-less c = omega arith
 
 loop-again : tie.Need-loop-again Inv-loop μ-loop
-loop-again c = (
-  omega arith,
-  simp length-set (c .before .before .before .before .before .loop .inv .1),
-  rw (c .before .before .before .before .before .loop .inv .2, c .before .before .digit .ensures, c .digit2 .ensures) (store-again (now (c .before .before .before .before .before .before .before .before .args .text)) (now (c .before .before .before .before .before .before .before .before .args .out)) (c .before .before .before .before .before .loop .i) (omega arith) (omega arith)),
-)
+loop-again c =
+    let a = c .before .before .before .before .before .before .before .before .args in
+    let l = c .before .before .before .before .before .loop in (
+      omega arith,
+      simp length-set (l .inv .1),
+      rw (l .inv .2, c .before .before .digit .ensures, c .digit2 .ensures) (store-again (now (a .text)) (now (a .out)) (l .i) (omega arith) (omega arith)),
+    )
 
 same-length : tie.Need-same-length Inv-loop μ-loop
 same-length c = c .before .loop .inv .1
 
 returns : tie.Need-returns Inv-loop μ-loop
 returns c =
-    let e : c .before .loop .i ≡ c .before .before .before .before .args .k = omega arith in
-    c .before .loop .inv .2 ∙ ap (λ (n : ℕ). bytesIn (take (2 * n) (now (c .before .before .before .before .args .text))) ++ drop n (now (c .before .before .before .before .args .out))) e
+    let a = c .before .before .before .before .args in
+    let e : c .before .loop .i ≡ a .k = omega arith in
+    c .before .loop .inv .2 ∙ ap (λ (n : ℕ). bytesIn (take (2 * n) (now (a .text))) ++ drop n (now (a .out))) e
 
 pub fill-spec : {M : Type 1} → statement M
 fill-spec =

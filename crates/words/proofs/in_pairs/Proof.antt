@@ -20,18 +20,21 @@ abbrev μ-loop : tie.MeasureT-loop
 
 returns : tie.Need-returns Inv-loop μ-loop
 returns c =
-    let l = length-take-le (c .before .before .args .end) (now (c .before .before .args .text)) (c .before .before .pre) in
-    sym (pairs-long (take (c .before .before .args .end) (now (c .before .before .args .text))) (omega (arith, l)))
+    let a = c .before .before .args in
+    let l = length-take-le (a .end) (now (a .text)) (c .before .before .pre) in
+    sym (pairs-long (take (a .end) (now (a .text))) (omega (arith, l)))
 
 returns-2 : tie.Need-returns-2 Inv-loop μ-loop
 returns-2 c =
-    let l = length-take-le (c .before .before .before .args .end) (now (c .before .before .before .args .text)) (c .before .before .before .pre) in
-    sym (pairs-odd (take (c .before .before .before .args .end) (now (c .before .before .before .args .text))) (rw l (c .if2 .taken)))
+    let a = c .before .before .before .args in
+    let l = length-take-le (a .end) (now (a .text)) (c .before .before .before .pre) in
+    sym (pairs-odd (take (a .end) (now (a .text))) (rw l (c .if2 .taken)))
 
 loop-holds : tie.Need-loop-holds Inv-loop μ-loop
 loop-holds c =
-    let l = length-take-le (c .before .before .before .args .end) (now (c .before .before .before .args .text)) (c .before .before .before .pre) in
-    (omega arith, pairs-even (take (c .before .before .before .args .end) (now (c .before .before .before .args .text))) (omega (arith, l)) (rw l (c .if2 .left)))
+    let a = c .before .before .before .args in
+    let l = length-take-le (a .end) (now (a .text)) (c .before .before .before .pre) in
+    (omega arith, pairs-even (take (a .end) (now (a .text))) (omega (arith, l)) (rw l (c .if2 .left)))
 
 shared-slice-read-digit : tie.Need-shared-slice-read-digit Inv-loop μ-loop
 shared-slice-read-digit c = omega arith
@@ -41,7 +44,10 @@ digit-requires c κs = search needs
 
 returns-3 : tie.Need-returns-3 Inv-loop μ-loop
 returns-3 c =
-    sym (c .before .before .before .before .loop .inv .1 ∙ hexed-off (now (c .before .before .before .before .before .before .before .before .args .text)) (c .before .before .before .before .before .before .before .before .args .end) (c .before .before .before .before .loop .i) (c .before .before .before .before .before .before .before .before .pre) (omega arith) (rw (c .before .digit .ensures) at (c .if3 .taken)))
+    let s = c .before .before .before .before .before .before .before .before in
+    let l = c .before .before .before .before .loop in
+    sym (l .inv .1
+    ∙ hexed-off (now (s .args .text)) (s .args .end) (l .i) (s .pre) (omega arith) (rw (c .before .digit .ensures) at (c .if3 .taken)))
 
 add-i : tie.Need-add-i Inv-loop μ-loop
 add-i c = omega arith
@@ -50,13 +56,19 @@ loop-less : tie.Need-loop-less Inv-loop μ-loop
 loop-less c = omega arith
 
 loop-again : tie.Need-loop-again Inv-loop μ-loop
-loop-again c = (
-  omega arith,
-  c .before .before .before .before .loop .inv .1 ∙ hexed-on (now (c .before .before .before .before .before .before .before .before .args .text)) (c .before .before .before .before .before .before .before .before .args .end) (c .before .before .before .before .loop .i) (c .before .before .before .before .before .before .before .before .pre) (omega arith) (omega (arith, c .before .digit .ensures, c .if3 .left)),
-)
+loop-again c =
+    let s = c .before .before .before .before .before .before .before .before in
+    let l = c .before .before .before .before .loop in (
+      omega arith,
+      l .inv .1
+          ∙ hexed-on (now (s .args .text)) (s .args .end) (l .i) (s .pre) (omega arith) (omega (arith, c .before .digit .ensures, c .if3 .left)),
+    )
 
 returns-4 : tie.Need-returns-4 Inv-loop μ-loop
-returns-4 c = sym (c .before .loop .inv .1 ∙ hexed-end (now (c .before .before .before .before .before .args .text)) (c .before .before .before .before .before .args .end) (c .before .loop .i) (c .before .before .before .before .before .pre) (omega arith))
+returns-4 c =
+    let s = c .before .before .before .before .before in
+    let l = c .before .loop in
+    sym (l .inv .1 ∙ hexed-end (now (s .args .text)) (s .args .end) (l .i) (s .pre) (omega arith))
 
 pub in-pairs-spec : {M : Type 1} → statement M
 in-pairs-spec =

@@ -8,10 +8,14 @@ use Rattle.words.proofs.of_bits.Statement.{statement}
 use Rattle.words.proofs.of_bits.Tie as tie
 
 returns : tie.Need-returns
-returns c = lends-none (bitsForm (now (c .before .before .before .args .word))) (now (c .before .before .before .args .out)) (bits-empty (now (c .before .before .before .args .word)) (omega arith))
+returns c =
+    let a = c .before .before .before .args in
+    lends-none (bitsForm (now (a .word))) (now (a .out)) (bits-empty (now (a .word)) (omega arith))
 
 returns-2 : tie.Need-returns-2
-returns-2 c = lends-none (bitsForm (now (c .before .before .before .before .args .word))) (now (c .before .before .before .before .args .out)) (bits-long (now (c .before .before .before .before .args .word)) (omega arith))
+returns-2 c =
+    let a = c .before .before .before .before .args in
+    lends-none (bitsForm (now (a .word))) (now (a .out)) (bits-long (now (a .word)) (omega arith))
 
 pack-requires : tie.Need-pack-requires
 pack-requires c κs = search needs
@@ -32,19 +36,29 @@ same-length : tie.Need-same-length
 same-length c = search needs
 
 returns-3 : tie.Need-returns-3
-returns-3 c = bits-packed (now (c .before .before .before .before .before .before .before .before .before .before .before .before .args .word)) (omega arith) (omega arith) (now (c .before .before .before .before .before .before .before .before .before .before .before .before .args .out)) (c .before .before .before .before .before .before .pack .result) _ (c .before .before .before .before .before .before .pack .ensures) _ (c .bytes-for .result) (c .before .before .packed .given .1) (c .bytes-for .ensures)
+returns-3 c =
+    let a = c .before .before .before .before .before .before .before .before .before .before .before .before .args in
+    let p = c .before .before .before .before .before .before .pack in
+    bits-packed (now (a .word)) (omega arith) (omega arith) (now (a .out)) (p .result) _ (p .ensures)
+    _ (c .bytes-for .result) (c .before .before .packed .given .1) (c .bytes-for .ensures)
 
 same-length-2 : tie.Need-same-length-2
 same-length-2 c = search needs
 
 returns-4 : tie.Need-returns-4
-returns-4 c = bits-other (now (c .before .before .before .before .before .before .before .before .before .before .args .word)) (omega arith) (omega arith) (now (c .before .before .before .before .before .before .before .before .before .before .args .out)) (c .before .before .before .before .pack .result) _ (c .before .before .before .before .pack .ensures) (c .enum-told .given .1)
+returns-4 c =
+    let a = c .before .before .before .before .before .before .before .before .before .before .args in
+    let p = c .before .before .before .before .pack in
+    bits-other (now (a .word)) (omega arith) (omega arith) (now (a .out)) (p .result) _ (p .ensures) (c .enum-told .given .1)
 
 same-length-3 : tie.Need-same-length-3
 same-length-3 c = search needs
 
 returns-5 : tie.Need-returns-5
-returns-5 c = bits-roomless (now (c .before .before .before .before .before .before .before .before .before .before .args .word)) (omega arith) (omega arith) (now (c .before .before .before .before .before .before .before .before .before .before .args .out)) (c .before .before .before .before .pack .result) _ (c .before .before .before .before .pack .ensures) (c .enum-told2 .given .1)
+returns-5 c =
+    let a = c .before .before .before .before .before .before .before .before .before .before .args in
+    let p = c .before .before .before .before .pack in
+    bits-roomless (now (a .word)) (omega arith) (omega arith) (now (a .out)) (p .result) _ (p .ensures) (c .enum-told2 .given .1)
 
 pub of-bits-spec : {M : Type 1} → statement M
 of-bits-spec =

@@ -12,7 +12,9 @@ in-pairs-requires : tie.Need-in-pairs-requires
 in-pairs-requires c κs = search needs
 
 returns : tie.Need-returns
-returns c = hex-no-pairs (now (c .before .before .before .before .args .word)) (c .before .before .before .before .args .colon) (c .before .before .before .before .pre .0) (now (c .before .before .before .before .args .out)) (sym (c .before .in-pairs .ensures) ∙ not-true _ (c .if1 .taken))
+returns c =
+    let s = c .before .before .before .before in
+    hex-no-pairs (now (s .args .word)) (s .args .colon) (s .pre .0) (now (s .args .out)) (sym (c .before .in-pairs .ensures) ∙ not-true _ (c .if1 .taken))
 
 add-number : tie.Need-add-number
 add-number c = search needs
@@ -36,19 +38,39 @@ enum-told : tie.Need-enum-told
 enum-told c = search needs
 
 returns-2 : tie.Need-returns-2
-returns-2 c = hex-no-number (now (c .before .before .before .before .before .before .before .before .args .word)) (c .before .before .before .before .before .before .before .before .args .colon) (c .before .before .before .before .before .before .before .before .pre .0) (now (c .before .before .before .before .before .before .before .before .args .out)) (sym (c .before .before .before .before .before .in-pairs .ensures) ∙ not-false _ (c .before .before .before .before .if1 .left)) (c .before .before .number .result) (c .before .before .number .ensures) (c .enum-told .given .1)
+returns-2 c =
+    let s = c .before .before .before .before .before .before .before .before in
+    let e = c .before .before .before .before in
+    let n = c .before .before .number in
+    hex-no-number (now (s .args .word)) (s .args .colon) (s .pre .0) (now (s .args .out)) (sym (e .before .in-pairs .ensures) ∙ not-false _ (e .if1 .left))
+    (n .result) (n .ensures) (c .enum-told .given .1)
 
 returns-3 : tie.Need-returns-3
-returns-3 c = hex-roomless (now (c .before .before .before .before .before .before .before .before .before .before .args .word)) (c .before .before .before .before .before .before .before .before .before .before .args .colon) (c .before .before .before .before .before .before .before .before .before .before .pre .0) (now (c .before .before .before .before .before .before .before .before .before .before .args .out)) (sym (c .before .before .before .before .before .before .before .in-pairs .ensures) ∙ not-false _ (c .before .before .before .before .before .before .if1 .left)) (c .before .before .before .before .number .result) (c .before .before .before .before .number .ensures) _ (c .before .before .figure .given .1) (c .before .before .before .before .before .before .before .before .before .before .pre .1) (omega arith)
+returns-3 c =
+    let s = c .before .before .before .before .before .before .before .before .before .before in
+    let e = c .before .before .before .before .before .before in
+    let n = c .before .before .before .before .number in
+    hex-roomless (now (s .args .word)) (s .args .colon) (s .pre .0) (now (s .args .out)) (sym (e .before .in-pairs .ensures) ∙ not-false _ (e .if1 .left))
+    (n .result) (n .ensures) _ (c .before .before .figure .given .1) (s .pre .1) (omega arith)
 
 fill-requires : tie.Need-fill-requires
-fill-requires c κs = let e = hex-even (now (c .before .before .before .before .before .before .before .before .before .before .before .args .word)) (c .before .before .before .before .before .before .before .before .before .before .before .args .colon) (sym (c .before .before .before .before .before .before .before .before .in-pairs .ensures) ∙ not-false _ (c .before .before .before .before .before .before .before .if1 .left)) (omega arith) in (e .0, e .1, omega arith)
+fill-requires c κs =
+    let s = c .before .before .before .before .before .before .before .before .before .before .before in
+    let e = c .before .before .before .before .before .before .before in
+    let h = hex-even (now (s .args .word)) (s .args .colon) (sym (e .before .in-pairs .ensures) ∙ not-false _ (e .if1 .left)) (omega arith) in
+    (h .0, h .1, omega arith)
 
 same-length : tie.Need-same-length
 same-length c = search needs
 
 returns-4 : tie.Need-returns-4
-returns-4 c = rw (c .before .before .fill .ensures) (hex-bytes (now (c .before .before .before .before .before .before .before .before .before .before .before .before .before .before .args .word)) (c .before .before .before .before .before .before .before .before .before .before .before .before .before .before .args .colon) (c .before .before .before .before .before .before .before .before .before .before .before .before .before .before .pre .0) (now (c .before .before .before .before .before .before .before .before .before .before .before .before .before .before .args .out)) (sym (c .before .before .before .before .before .before .before .before .before .before .before .in-pairs .ensures) ∙ not-false _ (c .before .before .before .before .before .before .before .before .before .before .if1 .left)) (c .before .before .before .before .before .before .before .before .number .result) (c .before .before .before .before .before .before .before .before .number .ensures) _ (c .before .before .before .before .before .before .figure .given .1) (c .before .before .before .before .before .before .before .before .before .before .before .before .before .before .pre .1) (omega arith))
+returns-4 c =
+    let s = c .before .before .before .before .before .before .before .before .before .before .before .before .before .before in
+    let e = c .before .before .before .before .before .before .before .before .before .before in
+    let n = c .before .before .before .before .before .before .before .before .number in
+    rw (c .before .before .fill .ensures)
+    (hex-bytes (now (s .args .word)) (s .args .colon) (s .pre .0) (now (s .args .out)) (sym (e .before .in-pairs .ensures) ∙ not-false _ (e .if1 .left))
+    (n .result) (n .ensures) _ (c .before .before .before .before .before .before .figure .given .1) (s .pre .1) (omega arith))
 
 pub of-hex-spec : {M : Type 1} → statement M
 of-hex-spec =

@@ -16,7 +16,9 @@ same-length : tie.Need-same-length
 same-length c = search needs
 
 returns : tie.Need-returns
-returns c = lends-hex (now (c .before .before .before .before .before .before .before .before .args .word)) (omega (arith, c .before .before .before .before .before .until .ensures)) (c .before .before .of-hex .ensures)
+returns c =
+    let w = now (c .before .before .before .before .before .before .before .before .args .word) in
+    lends-hex w (omega (arith, c .before .before .before .before .before .until .ensures)) (c .before .before .of-hex .ensures)
 
 of-bits-requires : tie.Need-of-bits-requires
 of-bits-requires c κs = search needs
@@ -25,7 +27,9 @@ same-length-2 : tie.Need-same-length-2
 same-length-2 c = search needs
 
 returns-2 : tie.Need-returns-2
-returns-2 c = lends-bits (now (c .before .before .before .before .before .before .before .before .args .word)) (omega (arith, c .before .before .before .before .before .until .ensures)) (c .before .before .of-bits .ensures)
+returns-2 c =
+    let w = now (c .before .before .before .before .before .before .before .before .args .word) in
+    lends-bits w (omega (arith, c .before .before .before .before .before .until .ensures)) (c .before .before .of-bits .ensures)
 
 pub telegram-spec : {M : Type 1} → statement M
 telegram-spec =

@@ -24,8 +24,9 @@ shared-slice-read-if1 c = omega arith
 
 returns : tie.Need-returns Inv-loop μ-loop
 returns c =
-    let e : upTo (c .before .before .before .before .args .c) (drop (c .before .before .before .loop .i) (now (c .before .before .before .before .args .text))) ≡ 0 = up-here (c .before .before .before .before .args .c) (now (c .before .before .before .before .args .text)) (c .before .before .before .loop .i) (omega arith) (c .if1 .taken) in
-    omega (arith, c .before .before .before .loop .inv)
+    let a = c .before .before .before .before .args in
+    let e = up-here (a .c) (now (a .text)) (c .before .before .before .loop .i) (omega arith) (c .if1 .taken) in
+    omega (arith, c .before .before .before .loop .inv, e)
 
 add-i : tie.Need-add-i Inv-loop μ-loop
 add-i c = omega arith
@@ -34,10 +35,14 @@ loop-less : tie.Need-loop-less Inv-loop μ-loop
 loop-less c = omega arith
 
 loop-again : tie.Need-loop-again Inv-loop μ-loop
-loop-again c = omega (arith, c .before .before .before .loop .inv, up-on (c .before .before .before .before .args .c) (now (c .before .before .before .before .args .text)) (c .before .before .before .loop .i) (omega arith) (c .if1 .left))
+loop-again c =
+    let a = c .before .before .before .before .args in
+    omega (arith, c .before .before .before .loop .inv, up-on (a .c) (now (a .text)) (c .before .before .before .loop .i) (omega arith) (c .if1 .left))
 
 returns-2 : tie.Need-returns-2 Inv-loop μ-loop
-returns-2 c = omega (arith, c .before .loop .inv, up-end (c .before .before .args .c) (now (c .before .before .args .text)) (c .before .loop .i) (omega arith))
+returns-2 c =
+    let a = c .before .before .args in
+    omega (arith, c .before .loop .inv, up-end (a .c) (now (a .text)) (c .before .loop .i) (omega arith))
 
 pub until-spec : {M : Type 1} → statement M
 until-spec =
