@@ -77,6 +77,7 @@ module _ (word : List ℕ) (t : Telegram) where
 
   -- no telegram word has more than 128 bytes
   pub bytes-few : telegramIn word ≡ some t → length (t .bytes) ≤ 128
+  unfolding telegramIn
   bytes-few = few-by (bitsForm word) (hexForm word) refl refl
 
 -- ---- what each answer tells

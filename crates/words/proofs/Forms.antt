@@ -187,9 +187,11 @@ either-none (some x) = refl
 
 module _ (word : List ℕ) {before after : List ℕ} {answered : Lent} where
   pub lends-hex : upTo 58 word < length word → Lends (hexForm word) before answered after → Lends (telegramIn word) before answered after
+  unfolding telegramIn
   lends-hex h = subst (λ (t : Option Telegram). Lends (either t (hexForm word)) before answered after) (sym (colon-no-bits word h))
 
   pub lends-bits : length word ≤ upTo 58 word → Lends (bitsForm word) before answered after → Lends (telegramIn word) before answered after
+  unfolding telegramIn
   lends-bits h e =
       subst (λ (t : Option Telegram). Lends (either (bitsForm word) t) before answered after) (sym (no-colon-no-hex word h))
       (subst (λ (t : Option Telegram). Lends t before answered after) (sym (either-none (bitsForm word))) e)

@@ -69,26 +69,26 @@ hexes : map telegramIn (textOf "90027F8125DFFFC1:58" ∷ textOf "90027f8125dfffc
     ∷ some (telegram [] 0)
     ∷ some (telegram (0 ∷ []) 18446744073709551615)
     ∷ []
-unfolding bitsForm binary hexForm upTo hexOf hexed inPairs bytesIn numberIn decimalIn digitsFrom
+unfolding telegramIn bitsForm binary hexForm upTo hexOf hexed inPairs bytesIn numberIn decimalIn digitsFrom
 hexes = refl
 
 -- bits, packed from the highest; and two characters 0, which are no byte without a colon
 bits : map telegramIn (textOf "1" ∷ textOf "10010000001" ∷ textOf "00" ∷ [])
     ≡ some (telegram (0x80 ∷ []) 1) ∷ some (telegram (0x90 ∷ 0x20 ∷ []) 11) ∷ some (telegram (0 ∷ []) 2) ∷ []
-unfolding bitsForm binary hexForm bytesOf packed filled valueOf
+unfolding telegramIn bitsForm binary hexForm bytesOf packed filled valueOf
 bits = refl
 
 -- a colon alone, no number, no colon, an odd count of characters, another character before and behind the colon, a needless zero, 2^64, two
 -- colons, a bit that is none, no character, and a carriage return
 no-telegrams : map telegramIn (textOf ":" ∷ textOf "00:" ∷ textOf "90" ∷ textOf "900:12" ∷ textOf "0G:8" ∷ textOf "00:8A" ∷ textOf "00:08"
     ∷ textOf "00:18446744073709551616" ∷ textOf "00:8:8" ∷ textOf "012" ∷ textOf "" ∷ (textOf "01" ++ return) ∷ []) ≡ replicate 12 none
-unfolding bitsForm binary hexForm upTo hexOf hexed inPairs bytesIn numberIn decimalIn digitsFrom
+unfolding telegramIn bitsForm binary hexForm upTo hexOf hexed inPairs bytesIn numberIn decimalIn digitsFrom
 no-telegrams = refl
 
 -- "1 to 1,024 characters 0 and 1", "0 to 128 bytes": the most of each, and one more
 longest : map telegramIn (replicate 1024 49 ∷ replicate 1025 49 ∷ (replicate 256 70 ++ textOf ":8") ∷ (replicate 258 70 ++ textOf ":8") ∷ [])
     ≡ some (telegram (replicate 128 0xFF) 1024) ∷ none ∷ some (telegram (replicate 128 0xFF) 8) ∷ none ∷ []
-unfolding bitsForm binary hexForm upTo hexOf hexed inPairs bytesIn numberIn decimalIn digitsFrom bytesOf packed filled valueOf
+unfolding telegramIn bitsForm binary hexForm upTo hexOf hexed inPairs bytesIn numberIn decimalIn digitsFrom bytesOf packed filled valueOf
 longest = refl
 
 -- what lies behind the bytes is kept, and all of it where there is no room, or no telegram
@@ -96,9 +96,9 @@ abbrev word : Option Telegram
 word = telegramIn (textOf "0102:9")
 
 put : lentOf word (7 ∷ 7 ∷ 7 ∷ []) ∷ lentOf word (7 ∷ []) ∷ lentOf none (7 ∷ []) ∷ [] ≡ lent.Bytes 2 9 ∷ lent.Room ∷ lent.Not ∷ []
-unfolding bitsForm binary hexForm upTo hexOf hexed inPairs bytesIn numberIn decimalIn digitsFrom
+unfolding telegramIn bitsForm binary hexForm upTo hexOf hexed inPairs bytesIn numberIn decimalIn digitsFrom
 put = refl
 
 puts : lentOver word (7 ∷ 7 ∷ 7 ∷ []) ∷ lentOver word (7 ∷ []) ∷ lentOver none (7 ∷ []) ∷ [] ≡ (1 ∷ 2 ∷ 7 ∷ []) ∷ (7 ∷ []) ∷ (7 ∷ []) ∷ []
-unfolding bitsForm binary hexForm upTo hexOf hexed inPairs bytesIn numberIn decimalIn digitsFrom
+unfolding telegramIn bitsForm binary hexForm upTo hexOf hexed inPairs bytesIn numberIn decimalIn digitsFrom
 puts = refl

@@ -1,4 +1,4 @@
--- "A TELEGRAM is a word of one of two forms": its bytes and n, and what is lent to it. Definitions alone.
+-- "A TELEGRAM is a word of one of two forms": its bytes and n, and those bytes put into what is lent. Definitions alone.
 use mathlib.Core.Path.{_≡_}
 use mathlib.Core.Bool.{Bool, true, cond, _&&_}
 use mathlib.Core.List.{List, [], _∷_, _++_}
@@ -54,10 +54,13 @@ abbrev pub counted : List ℕ → Figure → Option Telegram
 counted bytes figure.Not = none
 counted bytes (figure.Is n) = some (telegram bytes n)
 
--- "the bytes as they are lent; a colon; n, a number below 2^64". Of a word with no colon (58) no number is left.
+-- "the bytes as they are lent; a colon; n, a number below 2^64": what stands in front of the colon, and what stands behind it
+abbrev pub hexAnd : List ℕ → List ℕ → Option Telegram
+hexAnd hex number = cond (inPairs hex) (counted (bytesIn hex) (numberIn number)) none
+
+-- the first colon (58) counts; of a word without one no number is left
 unfoldable pub hexForm : List ℕ → Option Telegram
-hexForm word =
-    cond (inPairs (take (upTo 58 word) word)) (counted (bytesIn (take (upTo 58 word) word)) (numberIn (drop (suc (upTo 58 word)) word))) none
+hexForm word = hexAnd (take (upTo 58 word) word) (drop (suc (upTo 58 word)) word)
 
 -- ---- either
 
@@ -65,7 +68,7 @@ abbrev pub either : Option Telegram → Option Telegram → Option Telegram
 either none second = second
 either (some t) second = some t
 
-abbrev pub telegramIn : List ℕ → Option Telegram
+unfoldable pub telegramIn : List ℕ → Option Telegram
 telegramIn word = either (bitsForm word) (hexForm word)
 
 -- ---- put into what is lent
