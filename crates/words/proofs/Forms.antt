@@ -1,5 +1,5 @@
--- The two forms of a telegram word: what each way through the code answers, that no word has both, and that 128 bytes are room for every
--- word. Assumes nothing.
+-- The two forms of a telegram word: what each way through the code answers, and that a word with a colon is no bits, one without no HEX:n.
+-- Assumes nothing.
 use mathlib.Core.Path.{_≡_, refl, sym, ap, _∙_, subst}
 use mathlib.Core.Bool.{Bool, true, false, cond, _&&_}
 use mathlib.Core.List.{List, [], _∷_, _++_}

@@ -1,4 +1,4 @@
-// Words of a line: where one ends, and the number or the telegram that one writes. Every function answers every input.
+// Words of a line: where one ends, and the number or the telegram that one writes. Every public function answers every input.
 ghost use mathlib.Core.Path.{_≡_};
 ghost use mathlib.Core.Bool.{true};
 ghost use mathlib.Core.List.{_++_};
