@@ -1,0 +1,4 @@
+-- What a reader of this crate's promises must believe, in reading order.
+pub mod Words
+pub mod Telegrams
+pub mod Examples
