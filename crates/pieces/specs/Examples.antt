@@ -3,7 +3,7 @@ use mathlib.Core.Path.{_≡_, refl}
 use mathlib.Core.List.{List, [], _∷_}
 use mathlib.Core.Option.{some, none}
 use Prim.Native.Nat.{ℕ}
-use Rattle.pieces.specs.Numbers.{digitsOf, decimal, placesOf, sixteen, digitsFrom, decimalIn, found, placesFrom, sixteenIn}
+use Rattle.pieces.specs.Numbers.{digitsOf, decimal, placesOf, sixteen, digitsFrom, decimalIn, bounded, found, placesFrom, sixteenIn}
 
 written : decimal 0 ∷ decimal 9 ∷ decimal 10 ∷ decimal 830 ∷ [] ≡ (48 ∷ []) ∷ (57 ∷ []) ∷ (49 ∷ 48 ∷ []) ∷ (56 ∷ 51 ∷ 48 ∷ []) ∷ []
 unfolding digitsOf
@@ -14,6 +14,11 @@ reads : decimalIn (48 ∷ []) ∷ decimalIn (56 ∷ 51 ∷ 48 ∷ 44 ∷ []) ∷
     ≡ some (found 0 1) ∷ some (found 830 3) ∷ some (found 0 1) ∷ none ∷ none ∷ []
 unfolding decimalIn digitsFrom
 reads = refl
+
+-- all the digits of `007` and a comma, and none of `+5`
+leads : bounded (digitsFrom 0 0 (48 ∷ 48 ∷ 55 ∷ 44 ∷ [])) ∷ bounded (digitsFrom 0 0 (43 ∷ 53 ∷ [])) ∷ [] ≡ some (found 7 3) ∷ some (found 0 0) ∷ []
+unfolding digitsFrom
+leads = refl
 
 -- the largest number of 64 bits, and one more
 edge : decimalIn (decimal 18446744073709551615) ∷ decimalIn (decimal 18446744073709551616) ∷ [] ≡ some (found 18446744073709551615 20) ∷ none ∷ []

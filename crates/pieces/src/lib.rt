@@ -1,15 +1,7 @@
-// Pieces of text, compared and put, and numbers in text, written and read. Every function answers every input.
+// Pieces of text, compared and put, and the answer of what reads a number in it. Every function answers every input.
 ghost use mathlib.Core.Path.{_≡_};
 ghost use lib.ListN.{drop};
 ghost use Rattle.pieces.specs.Pieces.{begins, Appended};
-
-mod read;
-mod written;
-
-pub use read::decimal_at;
-pub use read::places_at;
-pub use written::append_decimal;
-pub use written::append_places;
 
 // A number that stands in a text, with its value and the position behind it, or that there is none.
 pub enum Number {

@@ -7,13 +7,13 @@ ghost use Rattle.pieces.specs.Pieces.{Appended};
 ghost use Rattle.sheet.specs.Reading.{rowIn, valueIn};
 ghost use Rattle.sheet.specs.Rows.{fieldOf, valueText};
 ghost use Rattle.sheet.specs.Steps.{Tables, rowAt, Labelled, RowPut};
+use parse::decimal_at;
+use parse::places_at;
 use pieces::Number;
 use pieces::append;
-use pieces::append_decimal;
-use pieces::append_places;
 use pieces::begins;
-use pieces::decimal_at;
-use pieces::places_at;
+use spell::append_decimal;
+use spell::append_places;
 
 // A row's field by number, its value and where the row ends; or that there is none.
 pub(crate) enum Row {

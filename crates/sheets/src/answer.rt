@@ -14,8 +14,8 @@ use format::Kind;
 use format::Refusal;
 use packing::Packed;
 use pieces::append;
-use pieces::append_decimal;
 use sheet::Reply;
+use spell::append_decimal;
 
 // ---- a line
 

@@ -45,7 +45,7 @@ fn until(text: &[u8], at: usize, c: u8) -> usize
 pub fn number(word: &[u8]) -> Figure
     ensures { λ r. ⌜ r ≡ numberIn (now (word .entry)) ⌝ }
 {
-    let read = pieces::decimal_at(word, 0);
+    let read = parse::decimal_at(word, 0);
     match read {
         pieces::Number::Read(v, end) => {
             if end != word.len() {
