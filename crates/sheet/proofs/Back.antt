@@ -61,7 +61,7 @@ module _ (p : Terms) where
   unfolding imported
   sheet-back {es} t =
       ap (onSheet p) (sheet-read es (all-readable p t) (few t))
-      ∙ ap (judged es) (writes p t)
+      ∙ ap (judged (numbers es)) (writes p t)
       ∙ ap (λ (o : Option ℕ). named o es) (none-other 0 (numbers es))
 
   -- ---- what import accepts
@@ -77,7 +77,7 @@ module _ (p : Terms) where
         ∙ entries-of es (telegram-listed p (t .0)) in
         (t .0, s .is ∙ ap sheetText one)
 
-    by-result : (rs : List Entry) → Stands sheetText text rs → (r : Result) → write p (values rs) ≡ r → judged rs r ≡ taken es
+    by-result : (rs : List Entry) → Stands sheetText text rs → (r : Result) → write p (values rs) ≡ r → judged (numbers rs) r ≡ taken es
         → Telegram p es × (text ≡ sheetText es)
     by-result rs s (refused x) q z = let w : _≡_ {A = ℕ} 0 1 = cc in absurd (omega arith)
     by-result rs s (accepted fs) q z = by-name (otherName 0 (numbers rs) (numbers fs)) refl z

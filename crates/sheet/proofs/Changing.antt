@@ -42,21 +42,21 @@ pub record Changed-import (strong : ℕ → ℕ → Bool) (before now : Imported
 -- ---- the value column
 
 -- what a sheet's rows are judged as is what the writer accepts, under the names that are due
-module _ (rs : List Entry) where
-  taken-is : (a : Result) (es : List Entry) → judged rs a ≡ taken es → (a ≡ accepted es) × (named (otherName 0 (numbers rs) (numbers es)) es ≡ taken es)
+module _ (ks : List ℕ) where
+  taken-is : (a : Result) (es : List Entry) → judged ks a ≡ taken es → (a ≡ accepted es) × (named (otherName 0 ks (numbers es)) es ≡ taken es)
   taken-is (refused r) es e = let z : _≡_ {A = ℕ} 0 1 = cc in absurd (omega arith)
-  taken-is (accepted fs) es e = by-names (otherName 0 (numbers rs) (numbers fs)) refl e
+  taken-is (accepted fs) es e = by-names (otherName 0 ks (numbers fs)) refl e
     where
-      by-names : (o : Option ℕ) → otherName 0 (numbers rs) (numbers fs) ≡ o → named o fs ≡ taken es
-          → (accepted fs ≡ accepted es) × (named (otherName 0 (numbers rs) (numbers es)) es ≡ taken es)
+      by-names : (o : Option ℕ) → otherName 0 ks (numbers fs) ≡ o → named o fs ≡ taken es
+          → (accepted fs ≡ accepted es) × (named (otherName 0 ks (numbers es)) es ≡ taken es)
       by-names none i h = let j : fs ≡ es = cc in (cc, rw (← j, i))
       by-names (some k) i h = let z : _≡_ {A = ℕ} 0 1 = cc in absurd (omega arith)
 
-  row-is : (a : Result) (k : ℕ) → judged rs a ≡ refusedAt k → (es : List Entry) × (a ≡ accepted es)
+  row-is : (a : Result) (k : ℕ) → judged ks a ≡ refusedAt k → (es : List Entry) × (a ≡ accepted es)
   row-is (refused r) k e = let z : _≡_ {A = ℕ} 0 1 = cc in absurd (omega arith)
   row-is (accepted es) k e = (es, refl)
 
-  judged-changed : {strong : ℕ → ℕ → Bool} {a b : Result} → Changed strong a b → Changed-import strong (judged rs a) (judged rs b)
+  judged-changed : {strong : ℕ → ℕ → Bool} {a b : Result} → Changed strong a b → Changed-import strong (judged ks a) (judged ks b)
   judged-changed {strong} {a} {b} c =
       record {
         takes = λ es. (
@@ -64,11 +64,11 @@ module _ (rs : List Entry) where
           λ e. let h = taken-is a es (e .0) in rw (c .accepts es .1 (h .0, e .1)) (h .1),
         );
         turns = λ es e. let h = taken-is a es e in (
-          λ r. c .turns es (h .0) .0 (r .0, by-writer (r .0) rs b (r .1)),
+          λ r. c .turns es (h .0) .0 (r .0, by-writer (r .0) ks b (r .1)),
           λ k. let r = c .turns es (h .0) .1 k in (r .0, rw (r .1)),
         );
-        there = λ es r e f. c .there es r (taken-is a es e .0) (by-writer r rs b f);
-        still = λ r e. ⊎-elim (λ h. inl (rw h)) inr (c .still r (by-writer r rs b e));
+        there = λ es r e f. c .there es r (taken-is a es e .0) (by-writer r ks b f);
+        still = λ r e. ⊎-elim (λ h. inl (rw h)) inr (c .still r (by-writer r ks b e));
         still-row = λ k e. let h = row-is b k e in rw (c .accepts (h .0) .0 (h .1) .0) (rw (h .1) at e);
       }
 
@@ -92,7 +92,7 @@ module _ (weak strong : ℕ → ℕ → Bool) (implies : Implies weak strong) wh
 
   rows-changed : (r : Rows) → Changed-import strong (onSheet (directing weak) r) (onSheet (directing strong) r)
   rows-changed (bad k) = same-changed strong (λ es e. let z : _≡_ {A = ℕ} 0 1 = cc in omega arith)
-  rows-changed (rows rs) = judged-changed rs (write-changed weak strong implies (values rs))
+  rows-changed (rows rs) = judged-changed (numbers rs) (write-changed weak strong implies (values rs))
 
   by-room : (test : Bool) (r : Refusal) {a b : Imported} → Changed-import strong a b
       → Changed-import strong (cond test a (refusedBy r)) (cond test b (refusedBy r))

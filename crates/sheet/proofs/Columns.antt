@@ -153,3 +153,7 @@ module _ (ks ds : List ℕ) (i : ℕ) (h : i < length ks) (g : i < length ds) wh
 
 pub other-none : (ks ds : List ℕ) (i : ℕ) → length ks ≤ i → otherName i (drop i ks) (drop i ds) ≡ none
 other-none ks ds i h = ap (λ (l : List ℕ). otherName i l (drop i ds)) (drop-of-length-le ks {i = i} h)
+
+-- no more are due
+pub other-past : (ks ds : List ℕ) (i : ℕ) → i < length ks → length ds ≤ i → otherName i (drop i ks) (drop i ds) ≡ none
+other-past ks ds i h g = ap₂ (otherName i) (drop-cons ks i 0 h) (drop-of-length-le ds {i = i} g)

@@ -19,7 +19,7 @@ use Rattle.format.specs.Fields.{fields}
 use Rattle.sheet.specs.Rows.{crlf, labelText, fieldOf}
 use Rattle.sheet.specs.Reading.{Row, row, labelIn, valueIn, closed, valued, rowIn}
 use Rattle.sheet.specs.Steps.{rowAt, Labelled}
-use Rattle.sheet.specs.declared.row.Row.the-variants.{Is, Bad}
+use Rattle.sheet.specs.declared.Row.the-variants.{Is, Bad}
 use Rattle.sheet.proofs.Table.{length-fields}
 
 -- a text that begins with a piece from at on has room for it

@@ -17,9 +17,9 @@ use Rattle.sheet.specs.Rows.{heading, entryOf}
 use Rattle.sheet.specs.Reading.{Row, Rows, rowIn, above, onRow, rowsIn, sheetIn}
 use Rattle.sheet.specs.Reading.Rows.{rows, bad}
 use Rattle.sheet.specs.Steps.{rowAt, entriesOf, Collecting, Collected}
-use Rattle.sheet.specs.declared.row.Row.the-variants.{Is, Bad}
-use Rattle.sheet.specs.declared.reading.Rows.the-variants as counted
-use Rattle.sheet.specs.declared.row.Row as row
+use Rattle.sheet.specs.declared.Row.the-variants.{Is, Bad}
+use Rattle.sheet.specs.declared.Rows.the-variants as counted
+use Rattle.sheet.specs.declared.Row as row
 use Rattle.sheet.proofs.Fronts.{row-number}
 use Rattle.sheet.proofs.Columns.{entries-more}
 

@@ -1,5 +1,5 @@
 -- What import answers once the rows are read, by the tests that it makes: the writer's, then the names. Assumes nothing.
-use mathlib.Core.Path.{_≡_, sym, ap, _∙_}
+use mathlib.Core.Path.{_≡_, sym, ap, ap₂, _∙_, subst}
 use mathlib.Core.Bool.{cond}
 use mathlib.Core.List.{List}
 use mathlib.Core.Option.{Option, some, none}
@@ -8,6 +8,7 @@ use borrow.Author.Tests.{le-leb, lt-leb, eq-eqb, ne-eqb}
 use lib.Dec.{eqb}
 use lib.ListN.{length, take, drop}
 use lib.Seq.{take-at}
+use Rattle.bits.specs.Bits.{Below}
 use Rattle.format.specs.Rules.{paper}
 use Rattle.format.specs.Telegrams.{Entry, Result, bitCount, values, write}
 use Rattle.format.specs.Telegrams.Result.{accepted, refused}
@@ -25,11 +26,11 @@ use Rattle.sheet.specs.Reading.{Rows}
 use Rattle.sheet.specs.Reading.Rows.{rows}
 use Rattle.sheet.specs.Sheets.{Imported, otherName, named, judged, onSheet, imported, importInto, sizeOf, bytesOver, Import}
 use Rattle.sheet.specs.Sheets.Imported.{taken, refusedBy, refusedAt}
-use Rattle.sheet.specs.Steps.{entriesOf, Columns, rowsRead, judgement, Judged, Other, Collected}
+use Rattle.sheet.specs.Steps.{rowsRead, FewRows, columnsInto, Judged, Other, Collected}
 use Rattle.sheet.specs.declared.Reply.{Reply}
 use Rattle.sheet.specs.declared.Reply.the-variants as reply
-use Rattle.sheet.specs.declared.reading.Rows.the-variants as counted
-use Rattle.sheet.specs.declared.reading.Rows as reading
+use Rattle.sheet.specs.declared.Rows.the-variants as counted
+use Rattle.sheet.specs.declared.Rows as reading
 use Rattle.sheet.proofs.Columns.{values-of, numbers-of, same-length}
 
 -- ---- what `label` finds
@@ -59,36 +60,43 @@ module _ {vs due after : List ℕ} {a : Answer} (l : Label paper vs due a after)
 -- ---- after the rows
 
 module _ (ks vs before : List ℕ) where
-  judged-as : (j : Imported) → judgement ks vs ≡ j → Judged ks vs before (sizeOf j) (bytesOver j before)
-  judged-as j e = record { answers = ap sizeOf (sym e); contents = ap (λ (x : Imported). bytesOver x before) (sym e) }
+  pub judges-roomless : length before < 104 → Judged ks vs before (reply.Refused (record { kind = Room; place = 0 })) before
+  unfolding columnsInto
+  judges-roomless h = record { answers = rw (lt-leb 104 (length before) h); contents = rw (lt-leb 104 (length before) h) }
 
-  pub judges-refused : {x : Refusal} → write paper vs ≡ refused x → Judged ks vs before (reply.Refused x) before
-  judges-refused {x} e = judged-as (refusedBy x) (ap (judged (entriesOf ks vs)) e)
+  module _ (h : 104 ≤ length before) where
+    columns-are : columnsInto paper ks vs (length before) ≡ judged ks (write paper vs)
+    unfolding columnsInto
+    columns-are = rw (le-leb 104 (length before) h)
 
-  module _ (c : Columns ks vs) (es : List Entry) (e : write paper vs ≡ accepted es) (r : ℕ) (o : Other ks (numbers es) r) where
-    first : judgement ks vs ≡ named (cond (eqb r 0) none (some r)) es
-    first =
-        ap (judged (entriesOf ks vs)) e
-        ∙ ap (λ (l : List ℕ). named (otherName 0 l (numbers es)) es) (numbers-of ks vs (c .same) (c .known))
-        ∙ ap (λ (x : Option ℕ). named x es) o
+    judged-as : (j : Imported) → judged ks (write paper vs) ≡ j → Judged ks vs before (sizeOf j) (bytesOver j before)
+    judged-as j e =
+        record { answers = ap sizeOf (sym (columns-are ∙ e)); contents = ap (λ (x : Imported). bytesOver x before) (sym (columns-are ∙ e)) }
 
-    pub judges-named : (r ≡ 0 → ⊥) → Judged ks vs before (reply.Row r) before
-    judges-named n = judged-as (refusedAt r) (first ∙ rw (ne-eqb r 0 n))
+    pub judges-refused : {x : Refusal} → write paper vs ≡ refused x → Judged ks vs before (reply.Refused x) before
+    judges-refused {x} e = judged-as (refusedBy x) (ap (judged ks) e)
 
-    wrote : 104 ≤ length before → writeInto paper vs (length before) ≡ accepted es
-    unfolding writeInto
-    wrote h = rw (le-leb 104 (length before) h) e
+    module _ (es : List Entry) (e : write paper vs ≡ accepted es) (r : ℕ) (o : Other ks (numbers es) r) where
+      first : judged ks (write paper vs) ≡ named (cond (eqb r 0) none (some r)) es
+      first = ap (judged ks) e ∙ ap (λ (x : Option ℕ). named x es) o
 
-    -- the telegram, written
-    pub judges-taken : r ≡ 0 → 104 ≤ length before → {b : Answer} {after : List ℕ} → Write paper vs before b after → {n : ℕ} → n ≡ bitCount es
-        → Judged ks vs before (reply.Done n) after
-    judges-taken z h {b} {after} w {n} size =
-        let taken-is : judgement ks vs ≡ taken es = first ∙ rw (eq-eqb r 0 z) in
-        record {
-          answers = ap reply.Done size ∙ ap sizeOf (sym taken-is);
-          contents =
-              w .contents ∙ ap (λ (x : Result). writer.bytesOver x before) (wrote h) ∙ ap (λ (x : Imported). bytesOver x before) (sym taken-is);
-        }
+      pub judges-named : (r ≡ 0 → ⊥) → Judged ks vs before (reply.Row r) before
+      judges-named n = judged-as (refusedAt r) (first ∙ rw (ne-eqb r 0 n))
+
+      wrote : writeInto paper vs (length before) ≡ accepted es
+      unfolding writeInto
+      wrote = rw (le-leb 104 (length before) h) e
+
+      -- the telegram, written
+      pub judges-taken : r ≡ 0 → {b : Answer} {after : List ℕ} → Write paper vs before b after → {n : ℕ} → n ≡ bitCount es
+          → Judged ks vs before (reply.Done n) after
+      judges-taken z {b} {after} w {n} size =
+          let taken-is : columnsInto paper ks vs (length before) ≡ taken es = columns-are ∙ first ∙ rw (eq-eqb r 0 z) in
+          record {
+            answers = ap reply.Done size ∙ ap sizeOf (sym taken-is);
+            contents =
+                w .contents ∙ ap (λ (x : Result). writer.bytesOver x before) wrote ∙ ap (λ (x : Imported). bytesOver x before) (sym taken-is);
+          }
 
 -- ---- import
 
@@ -106,11 +114,15 @@ module _ (text before : List ℕ) where
     imports-bad {k} e = record { answers = rw import-is (rw e); contents = rw import-is (rw e) }
 
     module _ {n : ℕ} (e : r ≡ counted.Read n) (same : length (take n ks) ≡ length (take n vs)) where
-      here : importInto paper text (length before) ≡ judgement (take n ks) (take n vs)
+      known : Below 72 (take n ks)
+      known = subst (λ (x : reading.Rows). FewRows x ks) e (c .few) .1
+
+      here : importInto paper text (length before) ≡ columnsInto paper (take n ks) (take n vs) (length before)
       here =
           import-is
           ∙ ap (λ (x : reading.Rows). onSheet paper (rowsRead x ks vs)) e
-          ∙ ap (λ (l : List ℕ). judged (entriesOf (take n ks) (take n vs)) (write paper l)) (values-of (take n ks) (take n vs) same)
+          ∙ ap₂ (λ (k v : List ℕ). judged k (write paper v)) (numbers-of (take n ks) (take n vs) same known) (values-of (take n ks) (take n vs) same)
+          ∙ sym (columns-are (take n ks) (take n vs) before h)
 
       pub imports-judged : {a : Reply} {after : List ℕ} → Judged (take n ks) (take n vs) before a after → Import paper text before a after
       imports-judged j =

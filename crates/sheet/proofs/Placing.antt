@@ -13,6 +13,7 @@ use Rattle.format.specs.declared.Refusal.{Refusal}
 use Rattle.laws.proofs.Place.{Alike, write-alike}
 use Rattle.laws.proofs.Place.Alike.{both-accepted, both-refused}
 use Rattle.states.proofs.Placing.{p, q, same-left, tested-alike, check-alike}
+use Rattle.states.specs.Labels.{numbers}
 use Rattle.sheet.specs.Reading.{Rows, sheetIn}
 use Rattle.sheet.specs.Reading.Rows.{rows, bad}
 use Rattle.sheet.specs.Sheets.{numberOf, exported, lengthOf, sheetOver, Imported, judged, onSheet, imported, importInto, sizeOf, bytesOver}
@@ -28,9 +29,9 @@ pub export-number : {a b : Result} → Alike a b → numberOf (lengthOf a) ≡ n
 export-number both-accepted = refl
 export-number (both-refused h) = ap refusals.numberOf h
 
-judged-alike : (rs : List Entry) {a b : Result} → Alike a b → Alike-import (judged rs a) (judged rs b)
-judged-alike rs both-accepted = same
-judged-alike rs (both-refused h) = both-refused-by h
+judged-alike : (ks : List ℕ) {a b : Result} → Alike a b → Alike-import (judged ks a) (judged ks b)
+judged-alike ks both-accepted = same
+judged-alike ks (both-refused h) = both-refused-by h
 
 pub import-number : {a b : Imported} → Alike-import a b → numberOf (sizeOf a) ≡ numberOf (sizeOf b)
 import-number same = refl
@@ -51,7 +52,7 @@ module _ (place other : Kind → State → ℕ → ℕ) (collides : Context → 
 
   rows-alike : (r : Rows) → Alike-import (onSheet (p place other collides) r) (onSheet (q place other collides) r)
   rows-alike (bad k) = same
-  rows-alike (rows rs) = judged-alike rs (write-alike (p place other collides) (q place other collides) (λ c v. refl) (values rs))
+  rows-alike (rows rs) = judged-alike (numbers rs) (write-alike (p place other collides) (q place other collides) (λ c v. refl) (values rs))
 
   by-room : (test : Bool) (r : Refusal) {a b : Imported} → Alike-import a b → Alike-import (cond test a (refusedBy r)) (cond test b (refusedBy r))
   by-room true r h = h

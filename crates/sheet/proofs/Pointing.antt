@@ -37,9 +37,9 @@ module _ (r : Refusal) where
   named-never none es e = let z : _≡_ {A = ℕ} 0 1 = cc in omega arith
   named-never (some k) es e = let z : _≡_ {A = ℕ} 0 1 = cc in omega arith
 
-  pub by-writer : (rs : List Entry) (a : Result) → judged rs a ≡ refusedBy r → a ≡ refused r
-  by-writer rs (refused q) e = cc
-  by-writer rs (accepted es) e = absurd (named-never (otherName 0 (numbers rs) (numbers es)) es e)
+  pub by-writer : (ks : List ℕ) (a : Result) → judged ks a ≡ refusedBy r → a ≡ refused r
+  by-writer ks (refused q) e = cc
+  by-writer ks (accepted es) e = absurd (named-never (otherName 0 ks (numbers es)) es e)
 
 module _ (collides : Context → ℕ → Bool) (r : Refusal) (late : 3 < numberOf (r .kind)) where
   pub export-pointed : (s : List ℕ) (n room : ℕ) → exported (pointing collides) s n room ≡ refused r
@@ -51,7 +51,7 @@ module _ (collides : Context → ℕ → Bool) (r : Refusal) (late : 3 < numberO
   by-rows : (text : List ℕ) (x : Rows) → sheetIn text ≡ x → onSheet (pointing collides) x ≡ refusedBy r → InColumn collides text r
   by-rows text (bad k) i e = let z : _≡_ {A = ℕ} 0 1 = cc in absurd (omega arith)
   by-rows text (rows rs) i e =
-      record { read = rs; is = i; pointed = write-pointed collides (values rs) r (by-writer r rs (write (pointing collides) (values rs)) e) }
+      record { read = rs; is = i; pointed = write-pointed collides (values rs) r (by-writer r (numbers rs) (write (pointing collides) (values rs)) e) }
 
   by-room : (test : Bool) (a : Imported) → cond test a (refusedBy (record { kind = Room; place = 0 })) ≡ refusedBy r → a ≡ refusedBy r
   by-room true a e = e

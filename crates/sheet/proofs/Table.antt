@@ -4,11 +4,13 @@ use mathlib.Core.Path.{_≡_, refl, sym, ap, _∙_, subst}
 use mathlib.Core.Bool.{Bool, true, false}
 use mathlib.Core.List.{List, map}
 use Prim.Native.Nat.{ℕ, suc, _+_, _-_, _<_, _≤_}
+use native.Mathlib.Nat.{lt-of-not-le}
 use native.Mathlib.Numerals.{add-one}
+use native.Mathlib.Decide.{decLe}
 use native.Mathlib.Omega.{arith}
 use borrow.Author.Tests.{eq-eqb, ne-eqb}
 use lib.Dec.{T, eqb, eqb→eq, leb, leb→le}
-use lib.ListN.{length, take, drop, getD, List·getD-map}
+use lib.ListN.{length, take, drop, getD, List·getD-map, List·getD-eq-default}
 use Rattle.format.specs.Fields.{Field, fields, END}
 use Rattle.format.proofs.Rows.{every, each}
 use Rattle.sheet.specs.Rows.{labelText, labels, starts, fieldOf, isRadio}
@@ -34,14 +36,21 @@ pub number-of : (k : ℕ) → k < 72 → fieldOf k .number ≡ k
 unfolding fields
 number-of k h = eqb→eq _ _ (field-law (λ i f. eqb (f .number) i) tt k h)
 
-radio-is : (k : ℕ) → k < 72 → isRadio (fieldOf k) ≡ eqb k 35
-radio-is k h = ap (λ (n : ℕ). eqb n 35) (number-of k h)
+-- a number past the last field is taken as the end mark's
+radio-is : (k : ℕ) → isRadio (fieldOf k) ≡ eqb k 35
+radio-is k = by (decLe 72 k)
+  where
+    by : Dec (72 ≤ k) → isRadio (fieldOf k) ≡ eqb k 35
+    by (yes h) =
+        let other : k ≡ 35 → ⊥ = λ e. absurd (omega arith) in
+        ap isRadio (List·getD-eq-default fields END {n = k} (rw length-fields h)) ∙ sym (ne-eqb k 35 other)
+    by (no h) = ap (λ (n : ℕ). eqb n 35) (number-of k (lt-of-not-le h))
 
-pub a-radio : (k : ℕ) → k < 72 → k ≡ 35 → isRadio (fieldOf k) ≡ true
-a-radio k h e = radio-is k h ∙ eq-eqb k 35 e
+pub a-radio : (k : ℕ) → k ≡ 35 → isRadio (fieldOf k) ≡ true
+a-radio k e = radio-is k ∙ eq-eqb k 35 e
 
-pub no-radio : (k : ℕ) → k < 72 → (k ≡ 35 → ⊥) → isRadio (fieldOf k) ≡ false
-no-radio k h n = radio-is k h ∙ ne-eqb k 35 n
+pub no-radio : (k : ℕ) → (k ≡ 35 → ⊥) → isRadio (fieldOf k) ≡ false
+no-radio k n = radio-is k ∙ ne-eqb k 35 n
 
 -- where a label begins and ends
 abbrev pub begin : ℕ → ℕ

@@ -72,14 +72,14 @@ abbrev pub named : Option ℕ → List Entry → Imported
 named none es = taken es
 named (some k) es = refusedAt k
 
--- "then the writer's on the value column; then 20 at the first row .."
-abbrev pub judged : List Entry → Result → Imported
-judged rs (refused r) = refusedBy r
-judged rs (accepted es) = named (otherName 0 (numbers rs) (numbers es)) es
+-- "then the writer's on the value column; then 20 at the first row ..", by the numbers of the rows' fields
+abbrev pub judged : List ℕ → Result → Imported
+judged ks (refused r) = refusedBy r
+judged ks (accepted es) = named (otherName 0 ks (numbers es)) es
 
 abbrev pub onSheet : Terms → Rows → Imported
 onSheet p (bad k) = refusedAt k
-onSheet p (rows rs) = judged rs (write p (values rs))
+onSheet p (rows rs) = judged (numbers rs) (write p (values rs))
 
 unfoldable pub imported : Terms → List ℕ → Imported
 imported p text = onSheet p (sheetIn text)

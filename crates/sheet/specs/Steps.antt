@@ -1,26 +1,28 @@
--- What the private functions of export and import ask and promise. Definitions alone.
+-- What the functions of export and import ask and promise. Definitions alone.
 use mathlib.Core.Path.{_≡_}
 use mathlib.Core.Bool.{true, cond}
 use mathlib.Core.List.{List, [], _∷_, _++_}
 use mathlib.Core.Option.{Option, some, none}
 use Prim.Native.Nat.{ℕ, _+_, _*_, _≤_, _<_}
-use lib.Dec.{eqb, ltb}
+use lib.Dec.{eqb, leb, ltb}
 use lib.ListN.{length, take}
 use Rattle.bits.specs.Bits.{Below}
 use Rattle.format.specs.Fields.{fields}
-use Rattle.format.specs.Rules.{paper}
+use Rattle.format.specs.Rules.{Terms, paper}
 use Rattle.format.specs.Telegrams.{Entry, Telegram, all, values, write}
 use Rattle.format.specs.Telegrams.Result.{accepted}
+use Rattle.format.specs.declared.Kind.the-variants.{Room}
 use Rattle.pieces.specs.Pieces.{begins, Grown}
 use Rattle.sheet.specs.Rows.{labelText, rowText, fieldOf, entryOf, labels, starts}
 use Rattle.sheet.specs.Reading.{Row, Rows, labelIn, sheetIn}
 use Rattle.sheet.specs.Reading.Rows.{rows, bad}
 use Rattle.sheet.specs.Sheets.{Imported, lengthOf, sheetOver, otherName, judged, sizeOf, bytesOver}
+use Rattle.sheet.specs.Sheets.Imported.{refusedBy}
 use Rattle.sheet.specs.declared.Reply.{Reply}
-use Rattle.sheet.specs.declared.row.Row.the-variants.{Is, Bad}
-use Rattle.sheet.specs.declared.reading.Rows.the-variants as counted
-use Rattle.sheet.specs.declared.row.Row as row
-use Rattle.sheet.specs.declared.reading.Rows as reading
+use Rattle.sheet.specs.declared.Row.the-variants.{Is, Bad}
+use Rattle.sheet.specs.declared.Rows.the-variants as counted
+use Rattle.sheet.specs.declared.Row as row
+use Rattle.sheet.specs.declared.Rows as reading
 
 -- ---- one row
 
@@ -93,17 +95,14 @@ pub record Collected (text : List ℕ) (r : reading.Rows) (ks vs : List ℕ) : T
   pub is : sheetIn text ≡ rowsRead r ks vs
   pub few : FewRows r ks
 
-pub record Judging (ks vs out : List ℕ) : Type 0 where
-  pub columns : Columns ks vs
-  pub few : length vs ≤ 830
-  pub room : 104 ≤ length out
+-- the numbers of the rows' fields and the value column as a telegram, with "a telegram output under 104" refused first
+unfoldable pub columnsInto : Terms → List ℕ → List ℕ → ℕ → Imported
+columnsInto p ks vs room = cond (leb 104 room) (judged ks (write p vs)) (refusedBy (record { kind = Room; place = 0 }))
 
-abbrev pub judgement : List ℕ → List ℕ → Imported
-judgement ks vs = judged (entriesOf ks vs) (write paper vs)
-
+-- the promise of `judge`
 pub record Judged (ks vs before : List ℕ) (reply : Reply) (after : List ℕ) : Type 0 where
-  pub answers : reply ≡ sizeOf (judgement ks vs)
-  pub contents : after ≡ bytesOver (judgement ks vs) before
+  pub answers : reply ≡ sizeOf (columnsInto paper ks vs (length before))
+  pub contents : after ≡ bytesOver (columnsInto paper ks vs (length before)) before
 
 -- the first row with another number than is due, 0 if there is none
 abbrev pub Other : List ℕ → List ℕ → ℕ → Type 0

@@ -64,7 +64,7 @@ fn exported(line: &[u8], out: &mut [u8]) -> Reply
     match packing::pack(line, &mut s) {
         Packed::Bits(n) => {
             let k = bits::bytes_for(n);
-            sheet::export(&s[..k], n, out)
+            sheet_out::export(&s[..k], n, out)
         }
         Packed::Other => no_telegram(),
         Packed::Room => no_telegram(),
@@ -96,7 +96,7 @@ fn from_sheet(input: &[u8], out: &mut [u8]) -> usize
     ensures { λ r. ⌜ Grown (now (out .entry)) (inText (now (input .entry))) r (now (out .exit)) ⌝ }
 {
     let mut s = [0u8; 104];
-    let reply = sheet::import(input, &mut s);
+    let reply = sheet_in::import(input, &mut s);
     match reply {
         Reply::Done(n) => {
             let end = characters(&s, n, out);
