@@ -1,0 +1,4 @@
+-- What is answered to a line, in reading order.
+pub mod Lines
+pub mod Text
+pub mod Examples

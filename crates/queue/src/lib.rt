@@ -1,0 +1,125 @@
+// Answers as text, which waits in a lent array and is written to standard output when that is full. Every function answers every
+// queue and every array.
+ghost use mathlib.Core.Path.{_≡_};
+ghost use mathlib.Core.Bool.{true};
+ghost use mathlib.Core.List.{[], _∷_};
+ghost use Prim.Native.Nat.{_+_, _*_, _^_, _<_, min};
+ghost use lib.ListN.{length, take, getD};
+ghost use Rattle.bits.specs.Bits.{bitsOf};
+ghost use Rattle.pieces.specs.Numbers.{decimal};
+ghost use Rattle.queue.specs.Waiting.{Joins};
+ghost use Rattle.queue.specs.Texts.{characterOf, characters, refusalText};
+use bits::Cursor;
+use bits::Taken;
+use format::Refusal;
+use libc::STDOUT_FILENO;
+
+// How many characters wait at the front of the array, and whether some could not be written.
+pub struct Queue {
+    pub waiting: usize,
+    pub lost: bool,
+}
+
+// Puts a character behind those that wait. Where the array is full, they are all written first.
+pub fn put(out: &mut [u8], q: Queue, c: u8) -> Queue
+    ensures { λ r. ⌜ Joins (c ∷ []) q (now (out .entry)) r (now (out .exit)) ⌝ }
+{
+    let at = q.waiting;
+    if at < out.len() {
+        out[at] = c;
+        return Queue {
+            waiting: at + 1,
+            lost: q.lost,
+        };
+    }
+    if out.len() == 0 {
+        return Queue {
+            waiting: 0,
+            lost: true,
+        };
+    }
+    let r = flush(out, q);
+    out[0] = c;
+    Queue {
+        waiting: 1,
+        lost: r.lost,
+    }
+}
+
+// Writes all that waits.
+pub fn flush(out: &[u8], q: Queue) -> Queue
+    ensures { λ r. ⌜ (r .waiting ≡ 0) × (q .lost ≡ true → r .lost ≡ true) ⌝ }
+{
+    let n = least(q.waiting, out.len());
+    let wrote = io::write_all(STDOUT_FILENO, &out[..n]);
+    let lost = if wrote { q.lost } else { true };
+    Queue { waiting: 0, lost }
+}
+
+fn least(a: usize, b: usize) -> usize
+    ensures { λ r. ⌜ r ≡ min a b ⌝ }
+{
+    if a < b { a } else { b }
+}
+
+// Puts a piece of text.
+pub fn say(out: &mut [u8], q: Queue, piece: &[u8]) -> Queue
+    ensures { λ r. ⌜ Joins (now (piece .entry)) q (now (out .entry)) r (now (out .exit)) ⌝ }
+{
+    let mut r = q;
+    let mut i = 0;
+    while i < piece.len() {
+        r = put(out, r, piece[i]);
+        i += 1;
+    }
+    r
+}
+
+// Puts the decimal digits of a number.
+pub fn number(out: &mut [u8], q: Queue, v: u64) -> Queue
+    ensures { λ r. ⌜ Joins (decimal v) q (now (out .entry)) r (now (out .exit)) ⌝ }
+{
+    let mut d = [0u8; 20];
+    let k = spell::append_decimal(&mut d, 0, v);
+    say(out, q, &d[..k])
+}
+
+// Puts the first n bits of s as characters 0 and 1, or all of them where s has fewer.
+pub fn characters(out: &mut [u8], q: Queue, s: &[u8], n: usize) -> Queue
+    ensures { λ r. ⌜ Joins (characters (take n (bitsOf (now (s .entry))))) q (now (out .entry)) r (now (out .exit)) ⌝ }
+{
+    let mut r = q;
+    let mut at = 0;
+    while at < n {
+        if s.len() <= at / 8 {
+            return r;
+        }
+        r = put(out, r, character(s, at));
+        at += 1;
+    }
+    r
+}
+
+// The bit at a position, as a character.
+fn character(s: &[u8], at: usize) -> u8
+    requires { ⌜ (at + 1 < 2 ^ 64) × (at < 8 * length (now s)) ⌝ }
+    ensures { λ r. ⌜ r ≡ characterOf (getD (bitsOf (now (s .entry))) at 0) ⌝ }
+{
+    let c = Cursor { at };
+    let Taken::Field(bit, _) = c.take(s, at + 1, 1) else {
+        return b'0';
+    };
+    if bit == 1 { b'1' } else { b'0' }
+}
+
+// Puts a refusal: `refused`, its number and its place, and the end of the line.
+pub fn refused(out: &mut [u8], q: Queue, refusal: Refusal) -> Queue
+    ensures { λ r. ⌜ Joins (refusalText refusal) q (now (out .entry)) r (now (out .exit)) ⌝ }
+{
+    let kind = refusal.kind;
+    let a = say(out, q, b"refused ");
+    let b = number(out, a, table::number(kind));
+    let c = put(out, b, b' ');
+    let d = number(out, c, refusal.place as u64);
+    put(out, d, b'\n')
+}
