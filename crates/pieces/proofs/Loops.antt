@@ -45,13 +45,12 @@ digits-grow (c ∷ text) v n = by (isDigit c) (digits-grow text (10 * v + (c - 4
 -- where digits behind at are read up to i
 pub record Reading (text : List ℕ) (at v i : ℕ) : Type 0 where
   pub behind : at ≤ i
-  pub within : i ≤ length text
   pub small : v < 2 ^ 64
   pub goes : digitsFrom 0 0 (drop at text) ≡ digitsFrom v (i - at) (drop i text)
 
-pub reading-first : (text : List ℕ) (at : ℕ) → at < length text → Reading text at 0 at
-reading-first text at h =
-    record { behind = omega arith; within = omega arith; small = omega arith; goes = ap (λ (k : ℕ). digitsFrom 0 k (drop at text)) (omega arith) }
+pub reading-first : (text : List ℕ) (at : ℕ) → Reading text at 0 at
+reading-first text at =
+    record { behind = omega arith; small = omega arith; goes = ap (λ (k : ℕ). digitsFrom 0 k (drop at text)) (omega arith) }
 
 module _ {text : List ℕ} {at v i : ℕ} (r : Reading text at v i) where
   reads-to : digitsFrom v (i - at) (drop i text) ≡ found v (i - at) → readAt at (bounded (digitsFrom 0 0 (drop at text))) ≡ Read v i
@@ -75,7 +74,7 @@ module _ {text : List ℕ} {at v i : ℕ} (r : Reading text at v i) where
         ∙ ap (λ (k : ℕ). digitsFrom (10 * v + (getD text i 0 - 48)) k (drop (i + 1) text)) here
 
     pub reading-on : isDigit (getD text i 0) ≡ true → 10 * v + (getD text i 0 - 48) < 2 ^ 64 → Reading text at (10 * v + (getD text i 0 - 48)) (i + 1)
-    reading-on e h = record { behind = omega (arith, r .behind); within = omega arith; small = h; goes = goes-on e }
+    reading-on e h = record { behind = omega (arith, r .behind); small = h; goes = goes-on e }
 
     -- once it is past 64 bits it stays so
     pub reads-large : isDigit (getD text i 0) ≡ true → 2 ^ 64 ≤ 10 * v + (getD text i 0 - 48)

@@ -7,6 +7,7 @@ mod read;
 mod written;
 
 pub use read::decimal_at;
+pub use read::digits_at;
 pub use read::places_at;
 pub use written::append_decimal;
 pub use written::append_places;

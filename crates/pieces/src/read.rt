@@ -1,8 +1,7 @@
 // Numbers read from text.
 ghost use mathlib.Core.Path.{_≡_};
 ghost use mathlib.Core.Bool.{true};
-ghost use Prim.Native.Nat.{_<_};
-ghost use lib.ListN.{length, drop};
+ghost use lib.ListN.{drop};
 ghost use Rattle.pieces.specs.Numbers.{readAt, isDigit, bounded, digitsFrom, decimalIn, isPlace, placeOf, sixteenIn};
 use crate::Number;
 
@@ -22,8 +21,9 @@ pub fn decimal_at(text: &[u8], at: usize) -> Number
     digits_at(text, at)
 }
 
-fn digits_at(text: &[u8], at: usize) -> Number
-    requires { ⌜ at < length (now text) ⌝ }
+// All the digits at a position, leading zeros among them: with no digit there the number is 0 and ends where it begins. One past 64 bits is
+// none.
+pub fn digits_at(text: &[u8], at: usize) -> Number
     ensures { λ r. ⌜ r ≡ readAt at (bounded (digitsFrom 0 0 (drop at (now (text .entry))))) ⌝ }
 {
     let mut v: u64 = 0;

@@ -19,7 +19,7 @@ returns-3 c =
     sym (at-other (now (c .before .before .before .before .before .before .before .args .text)) (c .before .before .before .before .before .before .before .args .at) (omega arith) (c .before .before .before .if2 .left) (sym (c .before .is-digit .ensures) ∙ not-true _ (c .if3 .taken)))
 
 digits-at-requires : tie.Need-digits-at-requires
-digits-at-requires c κs = omega arith
+digits-at-requires c κs = search needs
 
 returns-4 : tie.Need-returns-4
 returns-4 c =

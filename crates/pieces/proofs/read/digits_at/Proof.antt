@@ -21,7 +21,7 @@ abbrev μ-loop : tie.MeasureT-loop
 μ-loop text at v₀ i₀ v i = length text - i
 
 loop-holds : tie.Need-loop-holds Inv-loop μ-loop
-loop-holds c = reading-first (now (c .before .args .text)) (c .before .args .at) (c .before .pre)
+loop-holds c = reading-first (now (c .before .args .text)) (c .before .args .at)
 
 returns : tie.Need-returns Inv-loop μ-loop
 returns c = sym (reads-off (c .before .before .before .before .loop .inv) (omega arith) (sym (c .before .is-digit .ensures) ∙ not-true _ (c .if1 .taken)))
