@@ -1,2 +1,0 @@
--- What the functions of this program keep to.
-pub mod Room
