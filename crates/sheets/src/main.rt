@@ -3,7 +3,6 @@
 
 mod answer;
 mod input;
-mod line;
 
 use crate::answer::from_start_of_line;
 use crate::answer::from_start_of_sheet;
@@ -55,10 +54,9 @@ fn is(word: &[u8], other: &[u8]) -> bool {
     pieces::begins(word, 0, other)
 }
 
-// No telegram has more than 830 bits. An input of 832 bytes or more has at least 831 characters before a newline at its end and is
-// refused for that, whatever they are: so no more is read.
+// No more of a line is read than tells what is printed for it.
 fn out() {
-    let mut input = [0u8; 832];
+    let mut input = printed::line_buffer();
     let Filled::Bytes(n) = fill(&mut input) else {
         return unread();
     };
