@@ -5,7 +5,7 @@ use Rattle.printed.proofs.line_buffer.Statement.{statement}
 use Rattle.printed.proofs.line_buffer.Tie as tie
 
 returns : tie.Need-returns
-returns c = out-kept 832 (omega arith)
+returns c = out-kept _ (omega arith)
 
 pub line-buffer-spec : {M : Type 1} → statement M
 line-buffer-spec = tie.close (tie.spec returns)
