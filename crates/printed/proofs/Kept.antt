@@ -27,8 +27,8 @@ use Rattle.sheet.specs.Reading.{Row, labelIn, valueIn, closed, valued, rowIn, R
 use Rattle.sheet.specs.Sheets.{onSheet, imported}
 use Rattle.states.specs.Reader.{atOnce}
 use Rattle.printed.specs.Printed.{sheetOr, outText, TellsLine, lineOr, inText, TellsSheet}
-use Rattle.answers.specs.Lines.{lineLength}
-use Rattle.answers.proofs.Lines.{line-few, line-many}
+use Rattle.line_text.specs.Lines.{lineLength}
+use Rattle.line_text.proofs.Lines.{line-few, line-many}
 use Rattle.printed.proofs.Lines.{long-refused}
 
 -- ---- a line

@@ -8,7 +8,7 @@ use Rattle.states.specs.Reader.{checked}
 use Rattle.sheet.specs.Rows.{textOf, heading}
 use Rattle.sheet.specs.Reading.{sheetIn}
 use Rattle.sheet.specs.Sheets.{imported}
-use Rattle.answers.specs.Lines.{newline, refusal, lineLength}
+use Rattle.line_text.specs.Lines.{newline, refusal, lineLength}
 use Rattle.printed.specs.Printed.{told, outText, outInto, inText, inInto}
 
 -- too short, another character, nothing

@@ -16,8 +16,8 @@ use Rattle.sheet.specs.Sheets.{Imported, imported}
 use Rattle.sheet.specs.Sheets.Imported.{taken, refusedBy, refusedAt}
 use Rattle.sheet.specs.declared.Reply.the-variants.{Refused, Row}
 use Rattle.states.specs.Reader.{atOnce, checked}
-use Rattle.answers.specs.Characters.{characters}
-use Rattle.answers.specs.Lines.{newline, lineLength, refusal}
+use Rattle.line_text.specs.Characters.{characters}
+use Rattle.line_text.specs.Lines.{newline, lineLength, refusal}
 
 -- ---- `out`
 

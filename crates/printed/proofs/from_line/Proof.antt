@@ -4,8 +4,8 @@ use native.Mathlib.Omega.{arith}
 use denote.Ref.{now}
 use lib.Seq.{length-take-le}
 use borrow.Author.Needs.{needs}
-use Rattle.answers.proofs.Lines.{line-few}
-use Rattle.answers.proofs.Refusals.{refusal-there}
+use Rattle.line_text.proofs.Lines.{line-few}
+use Rattle.line_text.proofs.Refusals.{refusal-there}
 use Rattle.printed.proofs.Texts.{out-roomless, out-put, out-done, out-refused, out-rowless}
 use Rattle.printed.proofs.from_line.Statement.{statement}
 use Rattle.printed.proofs.from_line.Tie as tie

@@ -6,7 +6,7 @@ use native.Mathlib.Omega.{arith}
 use denote.Ref.{now}
 use borrow.Author.Needs.{needs}
 use Rattle.pieces.specs.Pieces.{Grown}
-use Rattle.answers.proofs.Refusals.{refusal-there}
+use Rattle.line_text.proofs.Refusals.{refusal-there}
 use Rattle.printed.proofs.Texts.{in-roomless, in-put, in-done, in-refused, in-row, line-put}
 use Rattle.printed.proofs.from_sheet.Statement.{statement}
 use Rattle.printed.proofs.from_sheet.Tie as tie

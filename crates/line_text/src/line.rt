@@ -4,7 +4,7 @@ ghost use Prim.Native.Nat.{_*_, _≤_, _<_};
 ghost use lib.ListN.{length, take, getD};
 ghost use Rattle.bits.specs.Bits.{bitsOf};
 ghost use Rattle.pieces.specs.Pieces.{Grown};
-ghost use Rattle.answers.specs.Characters.{characterOf, characters, charactersInto};
+ghost use Rattle.line_text.specs.Characters.{characterOf, characters, charactersInto};
 use bits::Cursor;
 use bits::Taken;
 

@@ -1,10 +1,10 @@
--- `answers::refuse` meets its contract: five pieces, one behind the other. Assumes nothing.
+-- `line_text::refuse` meets its contract: five pieces, one behind the other. Assumes nothing.
 use native.Mathlib.Omega.{arith}
 use denote.Ref.{now}
 use borrow.Author.Needs.{needs}
-use Rattle.answers.proofs.Refusals.{refusal-roomless, refusal-put}
-use Rattle.answers.proofs.refuse.Statement.{statement}
-use Rattle.answers.proofs.refuse.Tie as tie
+use Rattle.line_text.proofs.Refusals.{refusal-roomless, refusal-put}
+use Rattle.line_text.proofs.refuse.Statement.{statement}
+use Rattle.line_text.proofs.refuse.Tie as tie
 
 returns : tie.Need-returns
 returns c = refusal-roomless (c .before .before .args .reply) _ (omega arith)

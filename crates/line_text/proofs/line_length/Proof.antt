@@ -1,9 +1,9 @@
--- `answers::line_length` meets its contract. Assumes nothing.
+-- `line_text::line_length` meets its contract. Assumes nothing.
 use denote.Ref.{now}
 use borrow.Author.Needs.{needs}
-use Rattle.answers.proofs.Lines.{line-none, line-ended, line-open}
-use Rattle.answers.proofs.line_length.Statement.{statement}
-use Rattle.answers.proofs.line_length.Tie as tie
+use Rattle.line_text.proofs.Lines.{line-none, line-ended, line-open}
+use Rattle.line_text.proofs.line_length.Statement.{statement}
+use Rattle.line_text.proofs.line_length.Tie as tie
 
 returns : tie.Need-returns
 returns c = line-none (now (c .before .args .input)) (c .if1 .taken)

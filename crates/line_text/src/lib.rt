@@ -3,7 +3,7 @@
 ghost use mathlib.Core.Path.{_≡_};
 ghost use lib.ListN.{length};
 ghost use Rattle.pieces.specs.Pieces.{Grown};
-ghost use Rattle.answers.specs.Lines.{lineLength, refusalInto};
+ghost use Rattle.line_text.specs.Lines.{lineLength, refusalInto};
 
 mod line;
 

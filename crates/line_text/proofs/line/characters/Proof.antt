@@ -1,4 +1,4 @@
--- `answers::line::characters` meets its contract: the bits, then the room, then the characters. Assumes nothing.
+-- `line_text::line::characters` meets its contract: the bits, then the room, then the characters. Assumes nothing.
 use mathlib.Core.Path.{sym, subst}
 use mathlib.Core.List.{List}
 use Prim.Native.Nat.{ℕ}
@@ -6,9 +6,9 @@ use native.Mathlib.Omega.{arith}
 use denote.Ref.{now}
 use borrow.Author.Needs.{needs}
 use Rattle.pieces.specs.Pieces.{Grown}
-use Rattle.answers.proofs.Binary.{bits-few, room-few, characters-into}
-use Rattle.answers.proofs.line.characters.Statement.{statement}
-use Rattle.answers.proofs.line.characters.Tie as tie
+use Rattle.line_text.proofs.Binary.{bits-few, room-few, characters-into}
+use Rattle.line_text.proofs.line.characters.Statement.{statement}
+use Rattle.line_text.proofs.line.characters.Tie as tie
 
 bytes-for-requires : tie.Need-bytes-for-requires
 bytes-for-requires c κs = search needs

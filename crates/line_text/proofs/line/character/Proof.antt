@@ -1,11 +1,11 @@
--- `answers::line::character` meets its contract: the field of one bit is there, and is that bit. Assumes nothing.
+-- `line_text::line::character` meets its contract: the field of one bit is there, and is that bit. Assumes nothing.
 use mathlib.Core.Path.{sym, ap, _∙_}
 use denote.Ref.{now}
 use borrow.Author.Needs.{needs}
-use Rattle.answers.specs.Characters.{characterOf}
-use Rattle.answers.proofs.Binary.{bit-there, bit-taken, character-one, character-zero}
-use Rattle.answers.proofs.line.character.Statement.{statement}
-use Rattle.answers.proofs.line.character.Tie as tie
+use Rattle.line_text.specs.Characters.{characterOf}
+use Rattle.line_text.proofs.Binary.{bit-there, bit-taken, character-one, character-zero}
+use Rattle.line_text.proofs.line.character.Statement.{statement}
+use Rattle.line_text.proofs.line.character.Tie as tie
 
 take-requires : tie.Need-take-requires
 take-requires c κs = search needs

@@ -16,7 +16,7 @@ use Rattle.bits.proofs.Bytes.{length-bitsOf}
 use Rattle.bits.proofs.Fields.{taken, take-whole}
 use Rattle.pieces.specs.Pieces.{Grown}
 use Rattle.pieces.proofs.Starts.{grown-none}
-use Rattle.answers.specs.Characters.{characterOf, characters, charactersInto}
+use Rattle.line_text.specs.Characters.{characterOf, characters, charactersInto}
 
 -- ---- a bit as a character
 

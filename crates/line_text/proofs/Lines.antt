@@ -7,7 +7,7 @@ use native.Mathlib.Omega.{arith}
 use borrow.Author.Tests.{eq-eqb, ne-eqb}
 use lib.Dec.{eqb}
 use lib.ListN.{length, getD}
-use Rattle.answers.specs.Lines.{lineLength}
+use Rattle.line_text.specs.Lines.{lineLength}
 
 pub line-none : (input : List ℕ) → length input ≡ 0 → 0 ≡ lineLength input
 unfolding lineLength

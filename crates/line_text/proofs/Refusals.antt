@@ -12,7 +12,7 @@ use Rattle.pieces.proofs.Starts.{grown-none, grows}
 use Rattle.sheet.specs.Rows.{textOf}
 use Rattle.sheet.specs.Sheets.{numberOf, valueOf}
 use Rattle.sheet.specs.declared.Reply.{Reply}
-use Rattle.answers.specs.Lines.{newline, refusal, refusalInto}
+use Rattle.line_text.specs.Lines.{newline, refusal, refusalInto}
 
 pub refusal-roomless : (reply : Reply) (before : List ℕ) → length before < 64 → Grown before (refusalInto reply (length before)) 0 before
 unfolding refusalInto

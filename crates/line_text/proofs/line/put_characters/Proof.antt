@@ -1,4 +1,4 @@
--- `answers::line::put_characters` meets its contract. The loop's invariant: the first i bits stand in front as characters, and behind them what
+-- `line_text::line::put_characters` meets its contract. The loop's invariant: the first i bits stand in front as characters, and behind them what
 -- was there. The measure is how many bits are left. Assumes nothing.
 use mathlib.Core.Path.{_≡_, refl}
 use mathlib.Core.List.{_++_}
@@ -8,10 +8,10 @@ use denote.Ref.{now}
 use lib.ListN.{length, take, drop, length-set}
 use Rattle.bits.specs.Bits.{bitsOf}
 use Rattle.bits.proofs.Bytes.{length-bitsOf}
-use Rattle.answers.specs.Characters.{characters}
-use Rattle.answers.proofs.Binary.{characters-again, characters-all}
-use Rattle.answers.proofs.line.put_characters.Statement.{statement}
-use Rattle.answers.proofs.line.put_characters.Tie as tie
+use Rattle.line_text.specs.Characters.{characters}
+use Rattle.line_text.proofs.Binary.{characters-again, characters-all}
+use Rattle.line_text.proofs.line.put_characters.Statement.{statement}
+use Rattle.line_text.proofs.line.put_characters.Tie as tie
 
 abbrev Inv-loop : tie.InvT-loop
 Inv-loop s n out₀ i₀ out i = (i ≤ n) × (length out ≡ length out₀) × (out ≡ characters (take i (bitsOf s)) ++ drop i out₀)

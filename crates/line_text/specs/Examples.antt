@@ -6,8 +6,8 @@ use Rattle.format.specs.declared.Kind.the-variants.{Trailing}
 use Rattle.pieces.specs.Numbers.{digitsOf}
 use Rattle.sheet.specs.Rows.{textOf}
 use Rattle.sheet.specs.declared.Reply.the-variants.{Refused, Row}
-use Rattle.answers.specs.Lines.{newline, lineLength, refusal, refusalInto}
-use Rattle.answers.specs.Characters.{characters, charactersInto}
+use Rattle.line_text.specs.Lines.{newline, lineLength, refusal, refusalInto}
+use Rattle.line_text.specs.Characters.{characters, charactersInto}
 
 -- rule 11 at bit 58, and row 17 of a sheet
 refusals : refusal (Refused (record { kind = Trailing; place = 58 })) ∷ refusal (Row 17) ∷ []
