@@ -1,4 +1,2 @@
--- What is proved of the program's text, in reading order.
-pub mod Lines
-pub mod Texts
-pub mod Kept
+-- What is proved of the program's input.
+pub mod Held

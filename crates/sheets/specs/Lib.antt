@@ -1,4 +1,3 @@
--- The program's answers as text.
-pub mod Printed
+-- What the program reads of its input.
 pub mod Input
 pub mod Examples

@@ -2,13 +2,11 @@
 // the line of the telegram whose sheet standard input has. What is refused is printed by its number and its place, or row.
 
 mod answer;
-mod input;
-mod line;
 
 use crate::answer::from_start_of_line;
 use crate::answer::from_start_of_sheet;
-use crate::input::Filled;
-use crate::input::fill;
+use blocks::Filled;
+use blocks::fill;
 use libc::STDERR_FILENO;
 use libc::STDOUT_FILENO;
 
@@ -55,10 +53,9 @@ fn is(word: &[u8], other: &[u8]) -> bool {
     pieces::begins(word, 0, other)
 }
 
-// No telegram has more than 830 bits. An input of 832 bytes or more has at least 831 characters before a newline at its end and is
-// refused for that, whatever they are: so no more is read.
+// No more of a line is read than tells what is printed for it.
 fn out() {
-    let mut input = [0u8; 832];
+    let mut input = printed::line_buffer();
     let Filled::Bytes(n) = fill(&mut input) else {
         return unread();
     };

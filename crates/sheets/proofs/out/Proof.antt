@@ -6,15 +6,18 @@ use native.Mathlib.Omega.{arith}
 use lib.ListN.{length}
 use lib.Seq.{length-take-le}
 use borrow.Author.Needs.{needs}
-use Rattle.sheets.specs.Input.{Within}
-use Rattle.sheets.proofs.Kept.{held}
-use Rattle.sheets.proofs.Texts.{grown-within}
+use Rattle.blocks.specs.Reading.{Within}
+use Rattle.sheets.proofs.Held.{tells-as, held}
+use Rattle.printed.proofs.Texts.{grown-within}
 use Rattle.sheets.proofs.out.Statement.{statement}
 use Rattle.sheets.proofs.out.Tie as tie
 
 -- no more bytes were read than the buffer has
 read-within : (c : tie.After-n) → c .n .given .0 .0 ≤ length (c .before .before .before .fill .last .0)
 read-within c = subst (Within _) (c .n .given .1) (c .before .before .before .fill .ensures)
+
+line-buffer-requires : tie.Need-line-buffer-requires
+line-buffer-requires c κs = search needs
 
 slice-aggregate-fill : tie.Need-slice-aggregate-fill
 slice-aggregate-fill c = search needs
@@ -44,7 +47,7 @@ slice-aggregate-from-start-of-line-2 : tie.Need-slice-aggregate-from-start-of-li
 slice-aggregate-from-start-of-line-2 c = search needs
 
 from-start-of-line-requires : tie.Need-from-start-of-line-requires
-from-start-of-line-requires c κs = (omega arith, read-within (c .before .before .before .before), omega arith)
+from-start-of-line-requires c κs = (tells-as (c .before .before .before .before .before .before .before .before .before .line-buffer .ensures) (omega arith), read-within (c .before .before .before .before), omega arith)
 
 array-share-prefix-text : tie.Need-array-share-prefix-text
 array-share-prefix-text c = grown-within (c .before .from-start-of-line .ensures _ (held _ _ (read-within (c .before .before .before .before .before .before))))
@@ -62,6 +65,7 @@ pub out-spec : {M : Type 1} → statement M
 out-spec =
     tie.close
     (tie.spec
+    line-buffer-requires
     slice-aggregate-fill
     fill-requires
     enum-known-n

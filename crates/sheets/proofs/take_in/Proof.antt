@@ -6,9 +6,10 @@ use native.Mathlib.Omega.{arith}
 use lib.ListN.{length}
 use lib.Seq.{length-take-le}
 use borrow.Author.Needs.{needs}
-use Rattle.sheets.specs.Input.{Within}
-use Rattle.sheets.proofs.Kept.{held}
-use Rattle.sheets.proofs.Texts.{grown-within}
+use Rattle.blocks.specs.Reading.{Within}
+use Rattle.sheets.proofs.Held.{held}
+use Rattle.printed.proofs.Kept.{in-kept}
+use Rattle.printed.proofs.Texts.{grown-within}
 use Rattle.sheets.proofs.take_in.Statement.{statement}
 use Rattle.sheets.proofs.take_in.Tie as tie
 
@@ -44,7 +45,7 @@ slice-aggregate-from-start-of-sheet-2 : tie.Need-slice-aggregate-from-start-of-s
 slice-aggregate-from-start-of-sheet-2 c = search needs
 
 from-start-of-sheet-requires : tie.Need-from-start-of-sheet-requires
-from-start-of-sheet-requires c κs = (omega arith, read-within (c .before .before .before), omega arith)
+from-start-of-sheet-requires c κs = (in-kept _ (omega arith), read-within (c .before .before .before), omega arith)
 
 array-share-prefix-text : tie.Need-array-share-prefix-text
 array-share-prefix-text c = grown-within (c .before .from-start-of-sheet .ensures _ (held _ _ (read-within (c .before .before .before .before .before))))

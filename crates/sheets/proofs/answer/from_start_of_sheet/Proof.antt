@@ -3,7 +3,7 @@ use mathlib.Core.Path.{sym}
 use denote.Ref.{now}
 use lib.Seq.{length-take-le}
 use borrow.Author.Needs.{needs}
-use Rattle.sheets.proofs.Kept.{in-held}
+use Rattle.sheets.proofs.Held.{in-held}
 use Rattle.sheets.proofs.answer.from_start_of_sheet.Statement.{statement}
 use Rattle.sheets.proofs.answer.from_start_of_sheet.Tie as tie
 
@@ -19,7 +19,7 @@ same-length c = search needs
 returns : tie.Need-returns
 returns c =
     let s = c .before .before .before .before .before .before .before in
-    λ input holds. in-held (now (s .args .read)) (s .args .n) input (s .pre .0) holds (c .before .before .from-sheet .ensures)
+    λ input holds. in-held (now (s .args .read)) (s .args .n) input (s .pre .0) (s .pre .2) holds (c .before .before .from-sheet .ensures)
 
 pub from-start-of-sheet-spec : {M : Type 1} → statement M
 from-start-of-sheet-spec = tie.close (tie.spec slice-aggregate-from-sheet from-sheet-requires same-length returns)

@@ -1,0 +1,97 @@
+-- The characters of a bit string, put one by one. Assumes nothing.
+use mathlib.Core.Path.{_≡_, refl, sym, ap, _∙_, subst}
+use mathlib.Core.List.{List, [], _∷_, _++_}
+use Prim.Native.Nat.{ℕ, zero, suc, _+_, _*_, _≤_, _<_}
+use native.Mathlib.Numerals.{add-one}
+use native.Mathlib.Omega.{arith}
+use borrow.Author.Tests.{eq-eqb, ne-eqb, le-leb, lt-leb}
+use lib.Dec.{eqb}
+use lib.ListN.{length, take, drop, getD, set, length-map}
+use lib.Seq.{drop-cons, set-at, append-snoc, length-take-le}
+use Rattle.bits.specs.Bits.{valueOf, bitsOf, bytesFor}
+use Rattle.bits.specs.Take.{fieldBits, takeAt}
+use Rattle.bits.specs.declared.Cursor.{Cursor}
+use Rattle.bits.specs.declared.Taken.the-variants.{Field, Short}
+use Rattle.bits.proofs.Bytes.{length-bitsOf}
+use Rattle.bits.proofs.Fields.{taken, take-whole}
+use Rattle.pieces.specs.Pieces.{Grown}
+use Rattle.pieces.proofs.Starts.{grown-none}
+use Rattle.line_text.specs.Characters.{characterOf, characters, charactersInto}
+
+-- ---- a bit as a character
+
+value-one : (b : ℕ) → valueOf (b ∷ []) ≡ b
+unfolding valueOf
+value-one b = omega arith
+
+-- the field of one bit is that bit
+bit-is : (s : List ℕ) (at : ℕ) → at < 8 * length s → valueOf (fieldBits s 1 at) ≡ getD (bitsOf s) at 0
+bit-is s at h =
+    let l : at < length (bitsOf s) = rw (length-bitsOf s) h in
+    ap (λ (bs : List ℕ). valueOf (take 1 bs)) (drop-cons (bitsOf s) at 0 l) ∙ value-one (getD (bitsOf s) at 0)
+
+module _ (s : List ℕ) (n at : ℕ) (h : at < n) (room : n ≤ 8 * length s) where
+  whole : takeAt s n 1 at ≡ Field (valueOf (fieldBits s 1 at)) (record { at = at + 1 })
+  whole = take-whole s n 1 at (omega arith) (omega arith) room
+
+  pub bit-there : takeAt s n 1 at ≡ Short → ⊥
+  bit-there e = let w = sym whole ∙ e in let z : _≡_ {A = ℕ} 0 1 = cc in omega arith
+
+  pub bit-taken : (v : ℕ) (c : Cursor) → takeAt s n 1 at ≡ Field v c → v ≡ getD (bitsOf s) at 0
+  bit-taken v c e = taken s n 1 at v c e .value ∙ bit-is s at (omega arith)
+
+pub character-one : (b : ℕ) → b ≡ 1 → 49 ≡ characterOf b
+character-one b e = rw (eq-eqb b 1 e)
+
+pub character-zero : (b : ℕ) → (b ≡ 1 → ⊥) → 48 ≡ characterOf b
+character-zero b e = rw (ne-eqb b 1 e)
+
+-- ---- the characters, from the front
+
+pub length-characters : (bs : List ℕ) → length (characters bs) ≡ length bs
+length-characters bs = length-map bs characterOf
+
+characters-suc : (bs : List ℕ) (i : ℕ) → i < length bs → characters (take (suc i) bs) ≡ characters (take i bs) ++ (characterOf (getD bs i 0) ∷ [])
+characters-suc [] i h = absurd (omega arith)
+characters-suc (b ∷ bs) zero h = refl
+characters-suc (b ∷ bs) (suc i) h = ap (λ (l : List ℕ). characterOf b ∷ l) (characters-suc bs i (omega arith))
+
+-- one more, stored behind those that are there
+pub characters-again : (bs before : List ℕ) (i : ℕ) → i < length bs → i < length before
+    → set (characters (take i bs) ++ drop i before) i (characterOf (getD bs i 0)) ≡ characters (take (i + 1) bs) ++ drop (i + 1) before
+characters-again bs before i h l =
+    ap (λ (r : List ℕ). set (characters (take i bs) ++ r) i y) (drop-cons before i 0 l)
+    ∙ set-at (characters (take i bs)) (getD before i 0) (drop (suc i) before) y i many
+    ∙ sym (append-snoc (characters (take i bs)) y (drop (suc i) before))
+    ∙ ap (λ (r : List ℕ). r ++ drop (suc i) before) (sym (characters-suc bs i h))
+    ∙ ap (λ (n : ℕ). characters (take n bs) ++ drop n before) (sym (add-one i))
+  where
+    y : ℕ
+    y = characterOf (getD bs i 0)
+
+    many : length (characters (take i bs)) ≡ i
+    many = length-characters (take i bs) ∙ length-take-le i bs (omega arith)
+
+pub characters-all : (bs before out : List ℕ) (i n : ℕ) → i ≡ n → n ≤ length bs → out ≡ characters (take i bs) ++ drop i before
+    → Grown before (characters (take n bs)) n out
+characters-all bs before out i n e h is =
+    let many : n ≡ length (characters (take n bs)) = sym (length-characters (take n bs) ∙ length-take-le n bs h) in
+    record {
+      here = many;
+      is = is ∙ ap (λ (k : ℕ). characters (take k bs) ++ drop k before) e ∙ ap (λ (k : ℕ). characters (take n bs) ++ drop k before) many;
+    }
+
+-- ---- every number of bits and every room
+
+module _ (s : List ℕ) (n : ℕ) (before : List ℕ) where
+  pub bits-few : 8 * length s < n → Grown before (charactersInto s n (length before)) 0 before
+  unfolding charactersInto
+  bits-few h = rw (lt-leb n (8 * length s) h) (grown-none before)
+
+  pub room-few : n ≤ 8 * length s → length before < n → Grown before (charactersInto s n (length before)) 0 before
+  unfolding charactersInto
+  room-few h g = rw (le-leb n (8 * length s) h, lt-leb n (length before) g) (grown-none before)
+
+  pub characters-into : n ≤ 8 * length s → n ≤ length before → charactersInto s n (length before) ≡ characters (take n (bitsOf s))
+  unfolding charactersInto
+  characters-into h g = rw (le-leb n (8 * length s) h, le-leb n (length before) g)

@@ -1,0 +1,4 @@
+-- What is proved of what is printed, in reading order.
+pub mod Lines
+pub mod Texts
+pub mod Kept
