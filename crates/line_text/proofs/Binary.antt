@@ -1,14 +1,13 @@
 -- The characters of a bit string, put one by one. Assumes nothing.
-use mathlib.Core.Path.{_≡_, refl, sym, ap, _∙_, subst}
+use mathlib.Core.Path.{_≡_, refl, sym, ap, _∙_}
 use mathlib.Core.List.{List, [], _∷_, _++_}
 use Prim.Native.Nat.{ℕ, zero, suc, _+_, _*_, _≤_, _<_}
 use native.Mathlib.Numerals.{add-one}
 use native.Mathlib.Omega.{arith}
 use borrow.Author.Tests.{eq-eqb, ne-eqb, le-leb, lt-leb}
-use lib.Dec.{eqb}
 use lib.ListN.{length, take, drop, getD, set, length-map}
 use lib.Seq.{drop-cons, set-at, append-snoc, length-take-le}
-use Rattle.bits.specs.Bits.{valueOf, bitsOf, bytesFor}
+use Rattle.bits.specs.Bits.{valueOf, bitsOf}
 use Rattle.bits.specs.Take.{fieldBits, takeAt}
 use Rattle.bits.specs.declared.Cursor.{Cursor}
 use Rattle.bits.specs.declared.Taken.the-variants.{Field, Short}

@@ -21,7 +21,7 @@ lines : lineLength (textOf "01" ++ newline) ∷ lineLength (textOf "01" ++ newli
 unfolding lineLength
 lines = refl
 
--- 63 characters are too few for every refusal
+-- room for 63 characters, and for 64
 roomless : refusalInto (Row 17) 63 ∷ refusalInto (Row 17) 64 ∷ [] ≡ [] ∷ refusal (Row 17) ∷ []
 unfolding refusalInto
 roomless = refl

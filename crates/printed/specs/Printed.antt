@@ -54,5 +54,6 @@ inText input = lineOr (imported paper input)
 unfoldable pub inInto : List ℕ → ℕ → List ℕ
 inInto input room = cond (leb 1024 room) (inText input) []
 
+-- the first m bytes of a sheet tell what is printed for it
 pub record TellsSheet (m : ℕ) : Type 0 where
   pub tells : (input : List ℕ) → inText (take m input) ≡ inText input

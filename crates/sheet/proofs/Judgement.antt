@@ -10,7 +10,7 @@ use lib.ListN.{length, take, drop}
 use lib.Seq.{take-at}
 use Rattle.bits.specs.Bits.{Below}
 use Rattle.format.specs.Rules.{paper}
-use Rattle.format.specs.Telegrams.{Entry, Result, bitCount, values, write}
+use Rattle.format.specs.Telegrams.{Entry, Result, bitCount, write}
 use Rattle.format.specs.Telegrams.Result.{accepted, refused}
 use Rattle.format.specs.declared.Kind.the-variants.{Room}
 use Rattle.format.specs.declared.Refusal.{Refusal}
@@ -22,9 +22,7 @@ use Rattle.states.specs.Writer.{writeInto, Write}
 use Rattle.states.proofs.Checking.{was-refused}
 use Rattle.states.proofs.Writing.{Written, written}
 use Rattle.states.specs.Writer as writer
-use Rattle.sheet.specs.Reading.{Rows}
-use Rattle.sheet.specs.Reading.Rows.{rows}
-use Rattle.sheet.specs.Sheets.{Imported, otherName, named, judged, onSheet, imported, importInto, sizeOf, bytesOver, Import}
+use Rattle.sheet.specs.Sheets.{Imported, named, judged, onSheet, imported, importInto, sizeOf, bytesOver, Import}
 use Rattle.sheet.specs.Sheets.Imported.{taken, refusedBy, refusedAt}
 use Rattle.sheet.specs.Steps.{rowsRead, FewRows, columnsInto, Judged, Other, Collected}
 use Rattle.sheet.specs.declared.Reply.{Reply}

@@ -6,7 +6,7 @@ use mathlib.Core.Path.{_≡_, refl, ap}
 use Prim.Native.Nat.{ℕ}
 use lib.Dec.{leb}
 use Rattle.format.specs.Rules.{State, Context}
-use Rattle.format.specs.Telegrams.{Entry, Result, values}
+use Rattle.format.specs.Telegrams.{Result, values}
 use Rattle.format.specs.declared.Kind.{Kind}
 use Rattle.format.specs.declared.Kind.the-variants.{Room}
 use Rattle.format.specs.declared.Refusal.{Refusal}
