@@ -15,45 +15,9 @@ use Rattle.bits.proofs.Bytes.{length-bitsOf}
 use Rattle.bits.proofs.Fields.{taken, take-whole}
 use Rattle.pieces.specs.Pieces.{Grown}
 use Rattle.pieces.proofs.Starts.{grown-none}
-use Rattle.line_text.specs.Characters.{characterOf, characters, charactersInto}
-
--- ---- a bit as a character
-
-value-one : (b : ℕ) → valueOf (b ∷ []) ≡ b
-unfolding valueOf
-value-one b = omega arith
-
--- the field of one bit is that bit
-bit-is : (s : List ℕ) (at : ℕ) → at < 8 * length s → valueOf (fieldBits s 1 at) ≡ getD (bitsOf s) at 0
-bit-is s at h =
-    let l : at < length (bitsOf s) = rw (length-bitsOf s) h in
-    ap (λ (bs : List ℕ). valueOf (take 1 bs)) (drop-cons (bitsOf s) at 0 l) ∙ value-one (getD (bitsOf s) at 0)
-
-module _ (s : List ℕ) (n at : ℕ) (h : at < n) (room : n ≤ 8 * length s) where
-  whole : takeAt s n 1 at ≡ Field (valueOf (fieldBits s 1 at)) (record { at = at + 1 })
-  whole = take-whole s n 1 at (omega arith) (omega arith) room
-
-  pub bit-there : takeAt s n 1 at ≡ Short → ⊥
-  bit-there e = let w = sym whole ∙ e in let z : _≡_ {A = ℕ} 0 1 = cc in omega arith
-
-  pub bit-taken : (v : ℕ) (c : Cursor) → takeAt s n 1 at ≡ Field v c → v ≡ getD (bitsOf s) at 0
-  bit-taken v c e = taken s n 1 at v c e .value ∙ bit-is s at (omega arith)
-
-pub character-one : (b : ℕ) → b ≡ 1 → 49 ≡ characterOf b
-character-one b e = rw (eq-eqb b 1 e)
-
-pub character-zero : (b : ℕ) → (b ≡ 1 → ⊥) → 48 ≡ characterOf b
-character-zero b e = rw (ne-eqb b 1 e)
-
--- ---- the characters, from the front
-
-pub length-characters : (bs : List ℕ) → length (characters bs) ≡ length bs
-length-characters bs = length-map bs characterOf
-
-characters-suc : (bs : List ℕ) (i : ℕ) → i < length bs → characters (take (suc i) bs) ≡ characters (take i bs) ++ (characterOf (getD bs i 0) ∷ [])
-characters-suc [] i h = absurd (omega arith)
-characters-suc (b ∷ bs) zero h = refl
-characters-suc (b ∷ bs) (suc i) h = ap (λ (l : List ℕ). characterOf b ∷ l) (characters-suc bs i (omega arith))
+use Rattle.packing.specs.Packing.{characterOf, characters}
+use Rattle.packing.proofs.Characters.{length-characters, characters-suc}
+use Rattle.line_text.specs.Characters.{charactersInto}
 
 -- one more, stored behind those that are there
 pub characters-again : (bs before : List ℕ) (i : ℕ) → i < length bs → i < length before

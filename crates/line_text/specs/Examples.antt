@@ -7,7 +7,8 @@ use Rattle.pieces.specs.Numbers.{digitsOf}
 use Rattle.sheet.specs.Rows.{textOf}
 use Rattle.sheet.specs.declared.Reply.the-variants.{Refused, Row}
 use Rattle.line_text.specs.Lines.{newline, lineLength, refusal, refusalInto}
-use Rattle.line_text.specs.Characters.{characters, charactersInto}
+use Rattle.packing.specs.Packing.{characters}
+use Rattle.line_text.specs.Characters.{charactersInto}
 
 -- rule 11 at bit 58, and row 17 of a sheet
 refusals : refusal (Refused (record { kind = Trailing; place = 58 })) ∷ refusal (Row 17) ∷ []

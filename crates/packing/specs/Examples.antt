@@ -2,7 +2,7 @@
 use mathlib.Core.Path.{_≡_, refl}
 use mathlib.Core.List.{[], _∷_}
 use Rattle.bits.specs.Bits.{valueOf, filled, packed, bytesOf}
-use Rattle.packing.specs.Packing.{binary, bytesOver, packedOf, packInto}
+use Rattle.packing.specs.Packing.{binary, bytesOver, packedOf, packInto, characters}
 use Rattle.packing.specs.declared.Packed.the-variants.{Bits, Other, Room}
 
 -- no character, 0 and 1, a character above 1, one below 0, and a carriage return at the end
@@ -23,3 +23,6 @@ written : packInto (49 ∷ 48 ∷ 48 ∷ 49 ∷ 48 ∷ 48 ∷ 48 ∷ 48 ∷ 49 �
     ≡ (0x90 ∷ 0xe0 ∷ 3 ∷ []) ∷ (1 ∷ 2 ∷ 3 ∷ []) ∷ [] ∷ []
 unfolding valueOf filled packed bytesOf binary bytesOver packInto
 written = refl
+
+line : characters (1 ∷ 0 ∷ 0 ∷ 1 ∷ []) ≡ 49 ∷ 48 ∷ 48 ∷ 49 ∷ []
+line = refl

@@ -1,4 +1,4 @@
--- Lines of characters as bit strings, and their bytes in front of what is lent. Definitions alone.
+-- Lines of characters as bit strings, their bytes in front of what is lent, and bits as characters again. Definitions alone.
 use mathlib.Core.Path.{_≡_}
 use mathlib.Core.Bool.{Bool, true, cond, _&&_}
 use mathlib.Core.List.{List, [], _∷_, _++_, map}
@@ -6,6 +6,8 @@ use Prim.Native.Nat.{ℕ}
 use lib.Dec.{eqb, leb}
 use lib.ListN.{length, drop}
 use Rattle.bits.specs.Bits.{bytesFor, bytesOf}
+use Rattle.bits.specs.declared.Taken.{Taken}
+use Rattle.bits.specs.declared.Taken.the-variants.{Field, Short}
 use Rattle.packing.specs.declared.Packed.{Packed}
 use Rattle.packing.specs.declared.Packed.the-variants.{Bits, Other, Room}
 
@@ -42,3 +44,17 @@ packInto line before = cond (binary line) (cond (roomy line before) (bytesOver l
 pub record Pack (line before : List ℕ) (answered : Packed) (after : List ℕ) : Type 0 where
   pub answer : answered ≡ packedOf line before
   pub contents : after ≡ packInto line before
+
+-- ---- bits as characters
+
+abbrev pub characterOf : ℕ → ℕ
+characterOf b = cond (eqb b 1) 49 48
+
+-- the line that a bit string is
+abbrev pub characters : List ℕ → List ℕ
+characters bs = map characterOf bs
+
+-- the character of a field of one bit; where there is none, 0
+abbrev pub characterIn : Taken → ℕ
+characterIn (Field b c) = characterOf b
+characterIn Short = 48

@@ -1,9 +1,12 @@
-// Lines of the characters 0 and 1, packed into the bytes of the bit string that they write.
+// Lines of the characters 0 and 1, packed into the bytes of the bit string that they write; and the character of a bit.
 ghost use mathlib.Core.Path.{_≡_};
 ghost use Prim.Native.Nat.{_+_, _*_, _≤_};
 ghost use lib.ListN.{length, drop, getD};
 ghost use Rattle.bits.specs.Bits.{valueOf, filled, bytesFor};
-ghost use Rattle.packing.specs.Packing.{isBit, binary, bitOf, bitsIn, bytesOver, Pack};
+ghost use Rattle.bits.specs.Take.{takeAt};
+ghost use Rattle.packing.specs.Packing.{isBit, binary, bitOf, bitsIn, bytesOver, Pack, characterIn};
+use bits::Cursor;
+use bits::Taken;
 
 // What packing a line finds: the count of its bits, that it has another character, or that what is lent is too short.
 pub enum Packed {
@@ -125,4 +128,15 @@ fn bit_of(c: u8) -> u64
     ensures { λ r. ⌜ r ≡ bitOf c ⌝ }
 {
     if c == b'1' { 1 } else { 0 }
+}
+
+// The character of the bit at a position among the first n of s; where there is none, 0.
+pub fn character(s: &[u8], n: usize, at: usize) -> u8
+    ensures { λ r. ⌜ r ≡ characterIn (takeAt (now (s .entry)) n 1 at) ⌝ }
+{
+    let c = Cursor { at };
+    let Taken::Field(bit, _) = c.take(s, n, 1) else {
+        return b'0';
+    };
+    if bit == 1 { b'1' } else { b'0' }
 }

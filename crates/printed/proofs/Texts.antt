@@ -23,9 +23,11 @@ use Rattle.sheet.specs.declared.Reply.{Reply}
 use Rattle.sheet.specs.declared.Reply.the-variants.{Done, Refused, Row}
 use Rattle.states.specs.Reader.{atOnce, checked}
 use Rattle.printed.specs.Printed.{told, sheetOr, outText, outInto, lineOr, inText, inInto}
-use Rattle.line_text.specs.Characters.{characters, charactersInto}
+use Rattle.packing.specs.Packing.{characters}
+use Rattle.packing.proofs.Characters.{length-characters}
+use Rattle.line_text.specs.Characters.{charactersInto}
 use Rattle.line_text.specs.Lines.{newline, lineLength, refusal}
-use Rattle.line_text.proofs.Binary.{length-characters, characters-into}
+use Rattle.line_text.proofs.Binary.{characters-into}
 
 -- what is put lies within what is lent
 pub grown-within : {before text out : List ℕ} {at : ℕ} → Grown before text at out → at ≤ length out

@@ -10,13 +10,12 @@ use Rattle.format.specs.Rules.{paper}
 use Rattle.format.specs.Telegrams.{Result, bits}
 use Rattle.format.specs.Telegrams.Result.{accepted, refused}
 use Rattle.format.specs.declared.Kind.the-variants.{Size}
-use Rattle.packing.specs.Packing.{binary, bitsIn}
+use Rattle.packing.specs.Packing.{binary, bitsIn, characters}
 use Rattle.sheet.specs.Rows.{sheetText}
 use Rattle.sheet.specs.Sheets.{Imported, imported}
 use Rattle.sheet.specs.Sheets.Imported.{taken, refusedBy, refusedAt}
 use Rattle.sheet.specs.declared.Reply.the-variants.{Refused, Row}
 use Rattle.states.specs.Reader.{atOnce, checked}
-use Rattle.line_text.specs.Characters.{characters}
 use Rattle.line_text.specs.Lines.{newline, lineLength, refusal}
 
 -- ---- `out`

@@ -4,7 +4,7 @@ use mathlib.Core.List.{[], _∷_}
 use Rattle.format.specs.declared.Kind.the-variants.{Trailing}
 use Rattle.pieces.specs.Numbers.{digitsOf}
 use Rattle.queue.specs.Waiting.{Waits, waiting, put, queued}
-use Rattle.queue.specs.Texts.{characters, refusalText}
+use Rattle.queue.specs.Texts.{refusalText}
 
 -- `abc` and `de` behind one character that waits, in an array of four bytes: the fifth finds it full. Of an array of no bytes, and of a queue
 -- that says more than its array has
@@ -13,9 +13,6 @@ puts : queued (97 ∷ 98 ∷ 99 ∷ []) (waiting 1 (120 ∷ 0 ∷ 0 ∷ 0 ∷ []
     ≡ waiting 4 (120 ∷ 97 ∷ 98 ∷ 99 ∷ []) ∷ waiting 2 (100 ∷ 101 ∷ 98 ∷ 99 ∷ []) ∷ waiting 0 [] ∷ waiting 1 (97 ∷ 2 ∷ []) ∷ []
 unfolding queued put
 puts = refl
-
-line : characters (1 ∷ 0 ∷ 0 ∷ 1 ∷ []) ≡ 49 ∷ 48 ∷ 48 ∷ 49 ∷ []
-line = refl
 
 -- `refused 11 58`
 refusal : refusalText (record { kind = Trailing; place = 58 })

@@ -1,18 +1,9 @@
--- Bits and refusals as text. Definitions alone.
-use mathlib.Core.Bool.{cond}
-use mathlib.Core.List.{List, [], _∷_, _++_, map}
+-- Refusals as text. Definitions alone.
+use mathlib.Core.List.{List, [], _∷_, _++_}
 use Prim.Native.Nat.{ℕ}
-use lib.Dec.{eqb}
 use Rattle.format.specs.Refusals.{numberOf}
 use Rattle.format.specs.declared.Refusal.{Refusal}
 use Rattle.pieces.specs.Numbers.{decimal}
-
-abbrev pub characterOf : ℕ → ℕ
-characterOf b = cond (eqb b 1) 49 48
-
--- a bit string as the characters 0 and 1
-abbrev pub characters : List ℕ → List ℕ
-characters bs = map characterOf bs
 
 abbrev pub space : List ℕ
 space = 32 ∷ []

@@ -8,9 +8,8 @@ ghost use lib.ListN.{length, take, getD};
 ghost use Rattle.bits.specs.Bits.{bitsOf};
 ghost use Rattle.pieces.specs.Numbers.{decimal};
 ghost use Rattle.queue.specs.Waiting.{Joins};
-ghost use Rattle.queue.specs.Texts.{characterOf, characters, refusalText};
-use bits::Cursor;
-use bits::Taken;
+ghost use Rattle.packing.specs.Packing.{characters};
+ghost use Rattle.queue.specs.Texts.{refusalText};
 use format::Refusal;
 use libc::STDOUT_FILENO;
 
@@ -94,22 +93,10 @@ pub fn characters(out: &mut [u8], q: Queue, s: &[u8], n: usize) -> Queue
         if s.len() <= at / 8 {
             return r;
         }
-        r = put(out, r, character(s, at));
+        r = put(out, r, packing::character(s, at + 1, at));
         at += 1;
     }
     r
-}
-
-// The bit at a position, as a character.
-fn character(s: &[u8], at: usize) -> u8
-    requires { ⌜ (at + 1 < 2 ^ 64) × (at < 8 * length (now s)) ⌝ }
-    ensures { λ r. ⌜ r ≡ characterOf (getD (bitsOf (now (s .entry))) at 0) ⌝ }
-{
-    let c = Cursor { at };
-    let Taken::Field(bit, _) = c.take(s, at + 1, 1) else {
-        return b'0';
-    };
-    if bit == 1 { b'1' } else { b'0' }
 }
 
 // Puts a refusal: `refused`, its number and its place, and the end of the line.

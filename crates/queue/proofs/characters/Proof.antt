@@ -1,12 +1,14 @@
 -- `queue::characters` meets its contract. The loop's invariant: the first bits up to at have joined as characters. The measure is how many are left.
 -- Assumes nothing.
-use Prim.Native.Nat.{_≤_, _-_}
+use mathlib.Core.Path.{_∙_}
+use Prim.Native.Nat.{_+_, _≤_, _-_}
 use native.Mathlib.Omega.{arith}
 use denote.Ref.{now}
 use lib.ListN.{take}
 use borrow.Author.Needs.{needs}
 use Rattle.bits.specs.Bits.{bitsOf}
-use Rattle.queue.specs.Texts.{characters}
+use Rattle.packing.specs.Packing.{characters}
+use Rattle.packing.proofs.Characters.{character-there}
 use Rattle.queue.specs.Waiting.{Joins}
 use Rattle.queue.proofs.Joining.{joins-nothing, joins-length}
 use Rattle.queue.proofs.Bitwise.{characters-more, characters-few, characters-all}
@@ -28,8 +30,11 @@ same-length c = joins-length (c .before .before .loop .inv .1)
 returns : tie.Need-returns Inv-loop μ-loop
 returns c = characters-few (now (c .before .before .before .before .before .args .s)) (c .before .before .loop .at) (c .before .before .before .before .before .args .n) (c .before .before .loop .inv .1) (omega arith) (omega arith)
 
+add-character : tie.Need-add-character Inv-loop μ-loop
+add-character c = omega arith
+
 character-requires : tie.Need-character-requires Inv-loop μ-loop
-character-requires c κs = (omega arith, omega arith)
+character-requires c κs = search needs
 
 put-requires : tie.Need-put-requires Inv-loop μ-loop
 put-requires c κs = search needs
@@ -41,7 +46,19 @@ loop-less : tie.Need-loop-less Inv-loop μ-loop
 loop-less c = omega arith
 
 loop-again : tie.Need-loop-again Inv-loop μ-loop
-loop-again c = (omega arith, characters-more (now (c .before .before .before .before .before .before .before .before .before .before .args .s)) (c .before .before .before .before .before .before .before .loop .at) (c .before .before .before .character .result) (omega arith) (c .before .before .before .character .ensures) (c .before .before .before .before .before .before .before .loop .inv .1) (c .before .before .put .ensures))
+loop-again c =
+    let s = now (c .before .before .before .before .before .before .before .before .before .before .args .s) in
+    let l = c .before .before .before .before .before .before .before .loop in (
+      omega arith,
+      characters-more
+          s
+          (l .at)
+          (c .before .before .before .character .result)
+          (omega arith)
+          (c .before .before .before .character .ensures ∙ character-there s (l .at + 1) (l .at) (omega arith) (omega arith))
+          (l .inv .1)
+          (c .before .before .put .ensures),
+    )
 
 same-length-2 : tie.Need-same-length-2 Inv-loop μ-loop
 same-length-2 c = joins-length (c .before .loop .inv .1)
@@ -58,6 +75,7 @@ characters-spec =
     loop-holds
     same-length
     returns
+    add-character
     character-requires
     put-requires
     add-at

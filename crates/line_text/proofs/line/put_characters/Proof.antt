@@ -5,10 +5,12 @@ use mathlib.Core.List.{_++_}
 use Prim.Native.Nat.{_≤_, _-_}
 use native.Mathlib.Omega.{arith}
 use denote.Ref.{now}
+use borrow.Author.Needs.{needs}
 use lib.ListN.{length, take, drop, length-set}
 use Rattle.bits.specs.Bits.{bitsOf}
 use Rattle.bits.proofs.Bytes.{length-bitsOf}
-use Rattle.line_text.specs.Characters.{characters}
+use Rattle.packing.specs.Packing.{characters}
+use Rattle.packing.proofs.Characters.{character-there}
 use Rattle.line_text.proofs.Binary.{characters-again, characters-all}
 use Rattle.line_text.proofs.line.put_characters.Statement.{statement}
 use Rattle.line_text.proofs.line.put_characters.Tie as tie
@@ -23,7 +25,7 @@ loop-holds : tie.Need-loop-holds Inv-loop μ-loop
 loop-holds c = (omega arith, refl, refl)
 
 character-requires : tie.Need-character-requires Inv-loop μ-loop
-character-requires c κs = (omega arith, omega arith)
+character-requires c κs = search needs
 
 slice-write-out : tie.Need-slice-write-out Inv-loop μ-loop
 slice-write-out c = omega arith
@@ -41,7 +43,7 @@ loop-again c =
     let room = length-bitsOf (now (a .s)) in (
       omega arith,
       simp length-set (l .inv .1),
-      rw (l .inv .2, c .character .ensures) (characters-again (bitsOf (now (a .s))) (now (a .out)) (l .i) (omega arith) (omega arith)),
+      rw (l .inv .2, c .character .ensures ∙ character-there (now (a .s)) (a .n) (l .i) (omega arith) (omega arith)) (characters-again (bitsOf (now (a .s))) (now (a .out)) (l .i) (omega arith) (omega arith)),
     )
 
 same-length : tie.Need-same-length Inv-loop μ-loop
