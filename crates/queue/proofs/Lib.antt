@@ -2,3 +2,4 @@
 pub mod Joining
 mod Bitwise
 mod Digits
+mod Bulk

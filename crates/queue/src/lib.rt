@@ -3,7 +3,7 @@
 ghost use mathlib.Core.Path.{_≡_};
 ghost use mathlib.Core.Bool.{true};
 ghost use mathlib.Core.List.{[], _∷_};
-ghost use Prim.Native.Nat.{_+_, _*_, _^_, _<_, min};
+ghost use Prim.Native.Nat.{_+_, _*_, _^_, _<_, _≤_, min};
 ghost use lib.ListN.{length, take, getD};
 ghost use Rattle.bits.specs.Bits.{bitsOf};
 ghost use Rattle.pieces.specs.Numbers.{decimal};
@@ -61,8 +61,36 @@ fn least(a: usize, b: usize) -> usize
     if a < b { a } else { b }
 }
 
-// Puts a piece of text.
+// Puts a piece of text: at once where there is room behind what waits.
 pub fn say(out: &mut [u8], q: Queue, piece: &[u8]) -> Queue
+    ensures { λ r. ⌜ Joins (now (piece .entry)) q (now (out .entry)) r (now (out .exit)) ⌝ }
+{
+    let at = q.waiting;
+    if roomy(out, at, piece.len()) {
+        let end = pieces::append(out, at, piece);
+        return Queue {
+            waiting: end,
+            lost: q.lost,
+        };
+    }
+    singly(out, q, piece)
+}
+
+// Whether n more bytes of out are there from at on.
+fn roomy(out: &[u8], at: usize, n: usize) -> bool
+    ensures { λ r. ⌜ (r ≡ true → at + n ≤ length (now (out .entry))) ⌝ }
+{
+    if out.len() < at {
+        return false;
+    }
+    if out.len() - at < n {
+        return false;
+    }
+    true
+}
+
+// Puts a piece character by character.
+fn singly(out: &mut [u8], q: Queue, piece: &[u8]) -> Queue
     ensures { λ r. ⌜ Joins (now (piece .entry)) q (now (out .entry)) r (now (out .exit)) ⌝ }
 {
     let mut r = q;
@@ -78,9 +106,17 @@ pub fn say(out: &mut [u8], q: Queue, piece: &[u8]) -> Queue
 pub fn number(out: &mut [u8], q: Queue, v: u64) -> Queue
     ensures { λ r. ⌜ Joins (decimal v) q (now (out .entry)) r (now (out .exit)) ⌝ }
 {
+    let at = q.waiting;
+    if roomy(out, at, 20) {
+        let end = spell::append_decimal(out, at, v);
+        return Queue {
+            waiting: end,
+            lost: q.lost,
+        };
+    }
     let mut d = [0u8; 20];
     let k = spell::append_decimal(&mut d, 0, v);
-    say(out, q, &d[..k])
+    singly(out, q, &d[..k])
 }
 
 // Puts the first n bits of s as characters 0 and 1, or all of them where s has fewer.

@@ -1,56 +1,39 @@
--- `queue::say` meets its contract. The loop's invariant: the first i characters of the piece have joined. The measure is what is left of it.
--- Assumes nothing.
-use Prim.Native.Nat.{_≤_, _-_}
-use native.Mathlib.Omega.{arith}
+-- `queue::say` meets its contract: a piece that finds room is put as its characters are. Assumes nothing.
 use denote.Ref.{now}
-use lib.ListN.{length, take}
+use Rattle.queue.proofs.Bulk.{joins-at-once}
 use borrow.Author.Needs.{needs}
-use Rattle.queue.specs.Waiting.{Joins}
-use Rattle.queue.proofs.Joining.{joins-nothing, joins-length, joins-more, joins-all}
 use Rattle.queue.proofs.say.Statement.{statement}
 use Rattle.queue.proofs.say.Tie as tie
 
-abbrev Inv-loop : tie.InvT-loop
-Inv-loop out₀ piece r₀ i₀ out r i = (i ≤ length piece) × Joins (take i piece) r₀ out₀ r out
+roomy-requires : tie.Need-roomy-requires
+roomy-requires c κs = search needs
 
-abbrev μ-loop : tie.MeasureT-loop
-μ-loop out₀ piece r₀ i₀ out r i = length piece - i
+append-requires : tie.Need-append-requires
+append-requires c κs = search needs
 
-loop-holds : tie.Need-loop-holds Inv-loop μ-loop
-loop-holds c = (omega arith, joins-nothing (c .before .before .args .q) (now (c .before .before .args .out)))
+same-length : tie.Need-same-length
+same-length c = search needs
 
-shared-slice-read-put : tie.Need-shared-slice-read-put Inv-loop μ-loop
-shared-slice-read-put c = omega arith
+returns : tie.Need-returns
+returns c = joins-at-once (c .before .before .before .before .before .before .before .before .before .args .q) (now (c .before .before .before .before .before .before .before .before .before .args .out)) (now (c .before .before .before .before .before .before .before .before .before .args .piece)) _ _ (c .before .before .before .before .before .roomy .ensures (c .before .before .before .before .if1 .taken)) (c .before .before .append .ensures)
 
-put-requires : tie.Need-put-requires Inv-loop μ-loop
-put-requires c κs = search needs
+singly-requires : tie.Need-singly-requires
+singly-requires c κs = search needs
 
-add-i : tie.Need-add-i Inv-loop μ-loop
-add-i c = omega arith
+same-length-2 : tie.Need-same-length-2
+same-length-2 c = search needs
 
-loop-less : tie.Need-loop-less Inv-loop μ-loop
-loop-less c = omega arith
-
-loop-again : tie.Need-loop-again Inv-loop μ-loop
-loop-again c = (omega arith, joins-more (now (c .before .before .before .before .before .before .before .before .before .args .piece)) (c .before .before .before .before .before .before .loop .i) (omega arith) (c .before .before .before .before .before .before .loop .inv .1) (c .before .before .put .ensures))
-
-same-length : tie.Need-same-length Inv-loop μ-loop
-same-length c = joins-length (c .before .loop .inv .1)
-
-returns : tie.Need-returns Inv-loop μ-loop
-returns c = joins-all (now (c .before .before .before .before .args .piece)) (c .before .loop .i) (omega arith) (c .before .loop .inv .1)
+returns-2 : tie.Need-returns-2
+returns-2 c = search needs
 
 pub say-spec : {M : Type 1} → statement M
 say-spec =
     tie.close
     (tie.spec
-    Inv-loop
-    μ-loop
-    loop-holds
-    shared-slice-read-put
-    put-requires
-    add-i
-    loop-less
-    loop-again
+    roomy-requires
+    append-requires
     same-length
-    returns)
+    returns
+    singly-requires
+    same-length-2
+    returns-2)

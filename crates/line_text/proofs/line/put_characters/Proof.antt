@@ -1,6 +1,6 @@
 -- `line_text::line::put_characters` meets its contract. The loop's invariant: the first i bits stand in front as characters, and behind them what
 -- was there. The measure is how many bits are left. Assumes nothing.
-use mathlib.Core.Path.{_≡_, refl}
+use mathlib.Core.Path.{_≡_, refl, _∙_}
 use mathlib.Core.List.{_++_}
 use Prim.Native.Nat.{_≤_, _-_}
 use native.Mathlib.Omega.{arith}
