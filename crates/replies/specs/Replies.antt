@@ -10,7 +10,7 @@ use Rattle.format.specs.Telegrams.{Result, bits, values, write}
 use Rattle.format.specs.Telegrams.Result.{accepted, refused}
 use Rattle.format.specs.declared.Answer.{Answer}
 use Rattle.format.specs.declared.Answer.the-variants.{Accepted, Refused}
-use Rattle.packing.specs.Packing.{binary, bitsIn}
+use Rattle.packing.specs.Packing.{binary, bitsIn, characters}
 use Rattle.pieces.specs.Numbers.{decimal}
 use Rattle.queue.specs.Texts.{space, newline, refusalText}
 use Rattle.states.specs.Normaliser.{normalOf}
