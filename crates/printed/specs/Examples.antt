@@ -2,14 +2,11 @@
 use mathlib.Core.Path.{_≡_, refl}
 use mathlib.Core.List.{[], _∷_, _++_}
 use Rattle.pieces.specs.Numbers.{digitsOf}
-use Rattle.pieces.specs.Pieces.{begins}
 use Rattle.packing.specs.Packing.{binary}
 use Rattle.states.specs.Reader.{checked}
-use Rattle.sheet.specs.Rows.{textOf, heading}
-use Rattle.sheet.specs.Reading.{sheetIn}
-use Rattle.sheet.specs.Sheets.{imported}
+use Rattle.sheet.specs.Rows.{textOf}
 use Rattle.line_text.specs.Lines.{newline, refusal, lineLength}
-use Rattle.printed.specs.Printed.{told, outText, outInto, inText, inInto}
+use Rattle.printed.specs.Printed.{told, outText, outInto}
 
 -- too short, another character, nothing
 outs : outText (textOf "01" ++ newline) ∷ outText (textOf "0x") ∷ outText [] ∷ []
@@ -17,12 +14,7 @@ outs : outText (textOf "01" ++ newline) ∷ outText (textOf "0x") ∷ outText []
 unfolding outText lineLength told binary checked refusal digitsOf
 outs = refl
 
--- a byte too little room for every sheet, and for every line
-roomless : outInto (textOf "01") 65535 ∷ inInto (textOf "x") 1023 ∷ [] ≡ [] ∷ [] ∷ []
-unfolding outInto inInto
+-- a byte too little room for every sheet
+roomless : outInto (textOf "01") 65535 ≡ []
+unfolding outInto
 roomless = refl
-
--- no header
-ins : inText (textOf "x") ≡ textOf "refused 20 0" ++ newline
-unfolding inText imported sheetIn heading begins refusal digitsOf
-ins = refl

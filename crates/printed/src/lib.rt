@@ -1,4 +1,5 @@
-// What the program `sheets` prints for an input, put into a text. Every input and every room has its answer.
+// What the program `sheets` prints for an input, put into a text: here for a line, and by printed_in for a sheet. Every input and every room has
+// its answer.
 ghost use mathlib.Core.Path.{_≡_};
 ghost use Prim.Native.Nat.{_≤_};
 ghost use lib.ListN.{length};
@@ -6,17 +7,14 @@ ghost use Rattle.pieces.specs.Pieces.{Grown};
 ghost use Rattle.format.specs.declared.Kind.the-variants.{Size};
 ghost use Rattle.sheet.specs.Sheets.{lengthOf, sheetOver};
 ghost use Rattle.states.specs.Reader.{atOnce};
-ghost use Rattle.printed.specs.Printed.{told, outInto, inInto, TellsLine};
+ghost use Rattle.printed.specs.Printed.{told, outInto, TellsLine};
 use format::Kind;
 use format::Refusal;
-use line_text::characters;
 use line_text::line_length;
 use line_text::refuse;
 use packing::Packed;
-use pieces::append;
+pub use printed_in::from_sheet;
 use sheet::Reply;
-
-// ---- a line
 
 // No telegram has more than 830 bits. An input of 832 bytes or more has at least 831 characters before a newline at its end and is
 // refused for that, whatever they are.
@@ -69,26 +67,4 @@ fn no_telegram() -> Reply
         kind: Kind::Size,
         place: 0,
     })
-}
-
-// ---- a sheet
-
-// Puts the line of the telegram whose sheet the input is, or what refuses it, into out, and gives where it ends. Under 1,024 bytes nothing is
-// put, and it ends at 0.
-pub fn from_sheet(input: &[u8], out: &mut [u8]) -> usize
-    ensures { λ r. ⌜ Grown (now (out .entry)) (inInto (now (input .entry)) (length (now (out .entry)))) r (now (out .exit)) ⌝ }
-{
-    if out.len() < 1024 {
-        return 0;
-    }
-    let mut s = [0u8; 104];
-    let reply = sheet_in::import(input, &mut s);
-    match reply {
-        Reply::Done(n) => {
-            let end = characters(&s, n, out);
-            append(out, end, b"\n")
-        }
-        Reply::Refused(_) => refuse(reply, out),
-        Reply::Row(_) => refuse(reply, out),
-    }
 }

@@ -6,8 +6,10 @@ use native.Mathlib.Omega.{arith}
 use lib.ListN.{length, take}
 use lib.Seq.{take-all, length-take-le}
 use Rattle.pieces.specs.Pieces.{Grown}
-use Rattle.printed.specs.Printed.{outText, outInto, TellsLine, inText, inInto, TellsSheet}
-use Rattle.printed.proofs.Texts.{out-roomy, in-roomy}
+use Rattle.printed.specs.Printed.{outText, outInto, TellsLine}
+use Rattle.printed.proofs.Texts.{out-roomy}
+use Rattle.printed_in.specs.Sheet.{inText, inInto, TellsSheet}
+use Rattle.printed_in.proofs.Texts.{in-roomy}
 use Rattle.sheets.specs.Input.{Holds}
 
 -- what is put for the part of an input that a buffer holds is put for the input

@@ -3,7 +3,8 @@ ghost use mathlib.Core.List.{List};
 ghost use Prim.Native.Nat.{ℕ, _≤_};
 ghost use lib.ListN.{length};
 ghost use Rattle.pieces.specs.Pieces.{Grown};
-ghost use Rattle.printed.specs.Printed.{outText, TellsLine, inText, TellsSheet};
+ghost use Rattle.printed.specs.Printed.{outText, TellsLine};
+ghost use Rattle.printed_in.specs.Sheet.{inText, TellsSheet};
 ghost use Rattle.sheets.specs.Input.{Holds};
 
 // Of an input of which the first n bytes of the buffer are the whole, or as much as tells what is printed for its line.

@@ -8,7 +8,7 @@ use lib.Seq.{length-take-le}
 use borrow.Author.Needs.{needs}
 use Rattle.blocks.specs.Reading.{Within}
 use Rattle.sheets.proofs.Held.{held}
-use Rattle.printed.proofs.Kept.{in-kept}
+use Rattle.printed_in.proofs.Kept.{in-kept}
 use Rattle.printed.proofs.Texts.{grown-within}
 use Rattle.sheets.proofs.take_in.Statement.{statement}
 use Rattle.sheets.proofs.take_in.Tie as tie

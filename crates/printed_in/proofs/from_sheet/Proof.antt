@@ -1,4 +1,4 @@
--- `printed::from_sheet` meets its contract: room, and one law for each reply. Assumes nothing.
+-- `printed_in::from_sheet` meets its contract: room, and one law for each reply. Assumes nothing.
 use mathlib.Core.Path.{refl, subst}
 use mathlib.Core.List.{List}
 use Prim.Native.Nat.{ℕ}
@@ -7,9 +7,9 @@ use denote.Ref.{now}
 use borrow.Author.Needs.{needs}
 use Rattle.pieces.specs.Pieces.{Grown}
 use Rattle.line_text.proofs.Refusals.{refusal-there}
-use Rattle.printed.proofs.Texts.{in-roomless, in-put, in-done, in-refused, in-row, line-put}
-use Rattle.printed.proofs.from_sheet.Statement.{statement}
-use Rattle.printed.proofs.from_sheet.Tie as tie
+use Rattle.printed_in.proofs.Texts.{in-roomless, in-put, in-done, in-refused, in-row, line-put}
+use Rattle.printed_in.proofs.from_sheet.Statement.{statement}
+use Rattle.printed_in.proofs.from_sheet.Tie as tie
 
 returns : tie.Need-returns
 returns c = in-roomless (now (c .before .before .before .args .input)) _ (omega arith)

@@ -1,0 +1,3 @@
+-- What is printed for a sheet.
+pub mod Sheet
+pub mod Examples
