@@ -30,9 +30,6 @@ asked-is [] n = absurd (n refl)
 asked-is (c ∷ line) n = refl
 
 module _ (line : List ℕ) (some-left : length line ≡ 0 → ⊥) where
-  rest : List ℕ
-  rest = take (length line - 1) (drop 1 line)
-
   pub reply-read : getD line 0 0 ≡ 114 → bitsBehind false (take (length line - 1) (drop 1 line)) ≡ replyTo line
   reply-read e = ap (bitsBehind false) (tail-is line) ∙ sym (rw (eq-eqb (getD line 0 0) 114 e)) ∙ asked-is line some-left
 
