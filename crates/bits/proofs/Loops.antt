@@ -9,7 +9,7 @@ use lib.Seq.{take-append-le, drop-append-le, drop-at, take-at, split-at, drop-dr
 use lib.Pow.{pow-pos, pow-add, shr-lt, shr-shr}
 use lib.Arith.{digits-lt}
 use lib.Bits.{bitOr, bitAnd, and-mask}
-use Rattle.word.proofs.Words.{one-shl, or-shl}
+use Rattle.word64.proofs.Words.{one-shl, or-shl}
 use Rattle.bits.specs.Bits.{digits, valueOf, bitsOf}
 use Rattle.bits.specs.Take.{fieldBits}
 use Rattle.bits.proofs.Digits.{length-digits, digits-split, take-digits, drop-digits, digits-low, digits-three, valueOf-append, valueOf-digits-mod}

@@ -1,4 +1,4 @@
--- Each promise of `word`, of this crate and of `store` is met by one answer alone, and by one final contents of what is lent. Assumes nothing.
+-- Each promise of `word64`, of this crate and of `store` is met by one answer alone, and by one final contents of what is lent. Assumes nothing.
 use mathlib.Core.Path.{_≡_, sym, ap₂, _∙_}
 use mathlib.Core.List.{List}
 use mathlib.Core.Bool.{Bool, _||_}

@@ -8,12 +8,12 @@ ghost use Prim.Native.Nat.{_^_, _+_, _*_, _≤_, _<_};
 ghost use lib.ListN.{length};
 ghost use Rattle.bits.specs.Bits.{valueOf};
 ghost use Rattle.bits.specs.Take.{inside, fieldBits, takeAt, skipAt};
-pub use word::bytes_for;
-pub use word::fits;
-use word::low_bits;
-use word::lower;
-use word::wide;
-use word::window;
+pub use word64::bytes_for;
+pub use word64::fits;
+use word64::low_bits;
+use word64::lower;
+use word64::wide;
+use word64::window;
 
 // A position in a bit string: how many bits lie before it.
 pub struct Cursor {

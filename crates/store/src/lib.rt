@@ -5,11 +5,11 @@ ghost use Prim.Native.Nat.{_/_, _%_, _^_, _+_, _*_, _≤_, _<_};
 ghost use lib.ListN.{length};
 ghost use Rattle.bits.specs.Bits.{bitsOf};
 ghost use Rattle.bits.specs.Put.{over, Put};
-use word::fits;
-use word::low_bits;
-use word::lower;
-use word::wide;
-use word::window;
+use word64::fits;
+use word64::low_bits;
+use word64::lower;
+use word64::wide;
+use word64::window;
 
 // Writes value as the field of width bits that begins at the bit at, leaves every other bit as it was, and answers true. Where
 // the width is above 64, the value does not fit it or the field would end past the last byte: writes nothing, answers false.

@@ -8,7 +8,7 @@ use borrow.Author.Tests.{not-true, not-false, ltb-true}
 use denote.Ref.{now}
 use lib.Dec.{ltb}
 use lib.ListN.{length}
-use Rattle.word.proofs.Words.{narrow}
+use Rattle.word64.proofs.Words.{narrow}
 use Rattle.bits.proofs.Bytes.{below-known}
 use Rattle.bits.proofs.Fields.{put-wide, put-past, put-large, put-whole}
 use Rattle.store.proofs.put.Statement.{statement}

@@ -2,7 +2,7 @@
 use native.Mathlib.Omega.{arith}
 use borrow.Author.Needs.{needs}
 use lib.Pow.{pow-pos}
-use Rattle.word.proofs.Words.{one-shl}
+use Rattle.word64.proofs.Words.{one-shl}
 use Rattle.bits.proofs.Loops.{splice-is}
 use Rattle.store.proofs.splice.Statement.{statement}
 use Rattle.store.proofs.splice.Tie as tie

@@ -7,7 +7,7 @@ use borrow.Author.Needs.{needs}
 use borrow.Author.Tests.{not-true, not-false}
 use denote.Ref.{now}
 use lib.ListN.{length}
-use Rattle.word.proofs.Words.{narrow}
+use Rattle.word64.proofs.Words.{narrow}
 use Rattle.bits.specs.Bits.{valueOf}
 use Rattle.bits.specs.Take.{fieldBits}
 use Rattle.bits.proofs.Fields.{IsField, inside-field, take-whole, take-outside}

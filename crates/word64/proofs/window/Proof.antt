@@ -1,7 +1,7 @@
--- `word::window` meets its contract: shifted bytes joined are one number. Assumes nothing.
-use Rattle.word.proofs.Words.{or-bytes}
-use Rattle.word.proofs.window.Statement.{statement}
-use Rattle.word.proofs.window.Tie as tie
+-- `word64::window` meets its contract: shifted bytes joined are one number. Assumes nothing.
+use Rattle.word64.proofs.Words.{or-bytes}
+use Rattle.word64.proofs.window.Statement.{statement}
+use Rattle.word64.proofs.window.Tie as tie
 
 returns : tie.Need-returns
 returns c =

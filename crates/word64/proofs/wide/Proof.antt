@@ -1,8 +1,8 @@
--- `word::wide` meets its contract: each test answers one of the promise's. Assumes nothing.
+-- `word64::wide` meets its contract: each test answers one of the promise's. Assumes nothing.
 use native.Mathlib.Omega.{arith}
 use borrow.Author.Tests.{lt-ltb, le-ltb}
-use Rattle.word.proofs.wide.Statement.{statement}
-use Rattle.word.proofs.wide.Tie as tie
+use Rattle.word64.proofs.wide.Statement.{statement}
+use Rattle.word64.proofs.wide.Tie as tie
 
 returns : tie.Need-returns
 returns c = simp (lt-ltb 25 (c .before .args .width) (omega arith))

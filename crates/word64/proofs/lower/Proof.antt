@@ -1,7 +1,7 @@
--- `word::lower` meets its contract. Assumes nothing.
+-- `word64::lower` meets its contract. Assumes nothing.
 use native.Mathlib.Omega.{arith}
-use Rattle.word.proofs.lower.Statement.{statement}
-use Rattle.word.proofs.lower.Tie as tie
+use Rattle.word64.proofs.lower.Statement.{statement}
+use Rattle.word64.proofs.lower.Tie as tie
 
 returns : tie.Need-returns
 returns c = omega arith

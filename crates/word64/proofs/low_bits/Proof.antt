@@ -1,12 +1,12 @@
--- `word::low_bits` meets its contract: a number of 64 bits has no more; of fewer, a mask of ones keeps them. Assumes nothing.
+-- `word64::low_bits` meets its contract: a number of 64 bits has no more; of fewer, a mask of ones keeps them. Assumes nothing.
 use mathlib.Core.Path.{sym}
 use native.Mathlib.Nat.{lt-of-lt-of-le, mod-eq-of-lt}
 use native.Mathlib.Omega.{arith}
 use lib.Bits.{and-mask}
 use lib.Pow.{pow-mono, pow-pos}
-use Rattle.word.proofs.Words.{one-shl}
-use Rattle.word.proofs.low_bits.Statement.{statement}
-use Rattle.word.proofs.low_bits.Tie as tie
+use Rattle.word64.proofs.Words.{one-shl}
+use Rattle.word64.proofs.low_bits.Statement.{statement}
+use Rattle.word64.proofs.low_bits.Tie as tie
 
 returns : tie.Need-returns
 returns c = sym (mod-eq-of-lt (lt-of-lt-of-le (c .before .fits .x .fits) (pow-mono {i = 64} (omega arith))))
