@@ -3,5 +3,5 @@ pub mod Digits
 pub mod Bytes
 pub mod Fields
 pub mod Once
-mod Loops
-mod Windows
+pub mod Loops
+pub mod Windows

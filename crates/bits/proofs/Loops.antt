@@ -2,41 +2,21 @@
 use mathlib.Core.Path.{_≡_, sym, ap, _∙_, subst}
 use mathlib.Core.List.{List, _∷_, _++_, append-assoc}
 use Prim.Native.Nat.{ℕ, suc, _+_, _-_, _*_, _/_, _%_, _^_, _≤_, _<_}
-use native.Mathlib.Nat.{one-mul, mod-lt, add-assoc, div-eq-of-lt, div-lt-iff-lt-mul, sub-add-cancel, lt-of-not-le}
-use native.Mathlib.Decide.{decLe}
+use native.Mathlib.Nat.{mod-lt, add-assoc, sub-add-cancel}
 use native.Mathlib.Omega.{arith}
-use borrow.Author.Tests.{eq-eqb, ne-eqb, lt-ltb, le-ltb}
-use lib.Dec.{eqb, ltb}
 use lib.ListN.{length, take, drop, getD, set, length-append}
 use lib.Seq.{take-append-le, drop-append-le, drop-at, take-at, split-at, drop-drop, take-add, length-take-le, set-split}
-use lib.Pow.{pow-pos, pow-add, shl-exact, shr-lt, shr-shr}
+use lib.Pow.{pow-pos, pow-add, shr-lt, shr-shr}
 use lib.Arith.{digits-lt}
-use lib.Bits.{bitOr, bitAnd, or-shifted, and-mask}
+use lib.Bits.{bitOr, bitAnd, and-mask}
+use Rattle.word64.proofs.Words.{one-shl, or-shl}
 use Rattle.bits.specs.Bits.{digits, valueOf, bitsOf}
 use Rattle.bits.specs.Take.{fieldBits}
 use Rattle.bits.proofs.Digits.{length-digits, digits-split, take-digits, drop-digits, digits-low, digits-three, valueOf-append, valueOf-digits-mod}
 use Rattle.bits.proofs.Bytes.{length-bitsOf, bitsOf-append, bitsOf-cons}
 use Rattle.bits.proofs.Fields.{length-fieldBits, field-lt}
 
--- ---- the operators on words of 64 bits
-
--- `1 << t`
-pub one-shl : (t : ℕ) → t < 64 → 1 * 2 ^ t % 2 ^ 64 ≡ 2 ^ t
-one-shl t h = shl-exact {a = 1} 1 t 64 (omega arith) (omega arith) ∙ one-mul (2 ^ t)
-
--- `(v << t) | x`
-or-shl : (j t v x : ℕ) → v < 2 ^ j → x < 2 ^ t → j + t ≤ 64 → bitOr (v * 2 ^ t % 2 ^ 64) x ≡ v * 2 ^ t + x
-or-shl j t v x h k l = ap (λ (y : ℕ). bitOr y x) (shl-exact j t 64 h l) ∙ or-shifted v t x k
-
--- `v >> w == 0`
-pub shifted-out : (v w : ℕ) → eqb (v / 2 ^ w) 0 ≡ ltb v (2 ^ w)
-shifted-out v w = by (decLe (2 ^ w) v)
-  where
-    by : Dec (2 ^ w ≤ v) → eqb (v / 2 ^ w) 0 ≡ ltb v (2 ^ w)
-    by (yes h) =
-        ne-eqb (v / 2 ^ w) 0 (λ e. let l = div-lt-iff-lt-mul {x = v} {y = 1} (pow-pos w) .0 (omega arith) in omega (arith, rw (one-mul (2 ^ w)) at l))
-        ∙ sym (le-ltb v (2 ^ w) h)
-    by (no h) = eq-eqb (v / 2 ^ w) 0 (div-eq-of-lt (lt-of-not-le h)) ∙ sym (lt-ltb v (2 ^ w) (lt-of-not-le h))
+-- ---- a part of a number put anew
 
 join-lt : (j k a b : ℕ) → a < 2 ^ j → b < 2 ^ k → a * 2 ^ k + b < 2 ^ (j + k)
 join-lt j k a b h l = rw (pow-add 2 j k) (digits-lt h l)

@@ -1,8 +1,8 @@
--- Each promise of this crate is met by one answer alone, and by one final contents of what is lent. Assumes nothing.
+-- Each promise of `word64`, of this crate and of `store` is met by one answer alone, and by one final contents of what is lent. Assumes nothing.
 use mathlib.Core.Path.{_≡_, sym, ap₂, _∙_}
 use mathlib.Core.List.{List}
-use mathlib.Core.Bool.{Bool}
-use Prim.Native.Nat.{ℕ, _^_}
+use mathlib.Core.Bool.{Bool, _||_}
+use Prim.Native.Nat.{ℕ, _+_, _*_, _%_, _^_, min}
 use lib.Dec.{ltb}
 use Rattle.bits.specs.Bits.{bytesFor}
 use Rattle.bits.specs.Take.{takeAt, skipAt}
@@ -32,3 +32,15 @@ fits-once value width = equation-once (ltb value (2 ^ width))
 
 pub bytes-for-once : (n : ℕ) → Once (λ r. r ≡ bytesFor n)
 bytes-for-once n = equation-once (bytesFor n)
+
+pub wide-once : (bytes width : ℕ) → Once (λ r. r ≡ (ltb 25 width || ltb bytes 4))
+wide-once bytes width = equation-once (ltb 25 width || ltb bytes 4)
+
+pub window-once : (a b c d : ℕ) → Once (λ r. r ≡ ((a * 2 ^ 8 + b) * 2 ^ 8 + c) * 2 ^ 8 + d)
+window-once a b c d = equation-once (((a * 2 ^ 8 + b) * 2 ^ 8 + c) * 2 ^ 8 + d)
+
+pub low-bits-once : (x t : ℕ) → Once (λ r. r ≡ x % 2 ^ t)
+low-bits-once x t = equation-once (x % 2 ^ t)
+
+pub lower-once : (a b : ℕ) → Once (λ r. r ≡ min a b)
+lower-once a b = equation-once (min a b)

@@ -2,12 +2,10 @@
 use mathlib.Core.Path.{_≡_, refl, sym, ap, ap₂, _∙_}
 use mathlib.Core.List.{List, [], _∷_, _++_, append-assoc}
 use Prim.Native.Nat.{ℕ, suc, _+_, _-_, _*_, _/_, _%_, _^_, _≤_, _<_}
-use native.Mathlib.Nat.{mod-eq-of-lt, div-one, add-zero, add-mul, mul-assoc}
+use native.Mathlib.Nat.{mod-eq-of-lt, div-one, add-zero}
 use native.Mathlib.Omega.{arith}
 use lib.ListN.{length, take, drop, getD, set, length-drop, take-append-drop}
 use lib.Seq.{take-at, drop-at, drop-drop, length-take-le, sets-eq}
-use lib.Pow.{pow-add, shl-lt, shl-exact}
-use lib.Bits.{bitOr, or-shifted}
 use Rattle.bits.specs.Bits.{digits, valueOf, bitsOf, Below}
 use Rattle.bits.specs.Take.{fieldBits}
 use Rattle.bits.specs.Put.{over}
@@ -28,34 +26,12 @@ byte-step s k j h l =
     here : (8 * k + 8 * j) / 8 ≡ k + j
     here = omega arith
 
--- `(a << 24) | (b << 16) | (c << 8) | d`
-or-bytes : (a b c d : ℕ) → a < 2 ^ 8 → b < 2 ^ 8 → c < 2 ^ 8 → d < 2 ^ 8
-    → bitOr (bitOr (bitOr (a * 2 ^ 24 % 2 ^ 64) (b * 2 ^ 16 % 2 ^ 64)) (c * 2 ^ 8 % 2 ^ 64)) d
-    ≡ ((a * 2 ^ 8 + b) * 2 ^ 8 + c) * 2 ^ 8 + d
-or-bytes a b c d ha hb hc hd =
-    rw (
-      shl-exact 8 24 64 ha (omega arith),
-      shl-exact 8 16 64 hb (omega arith),
-      shl-exact 8 8 64 hc (omega arith),
-      or-next a b 8 16 hb,
-      or-next (a * 2 ^ 8 + b) c 8 8 hc,
-    )
-    (or-shifted ((a * 2 ^ 8 + b) * 2 ^ 8 + c) 8 d hd)
-  where
-    -- a number shifted further by t bits leaves room for t bits more
-    or-next : (v x t k : ℕ) → x < 2 ^ t → bitOr (v * 2 ^ (t + k)) (x * 2 ^ k) ≡ (v * 2 ^ t + x) * 2 ^ k
-    or-next v x t k h = or-shifted v (t + k) (x * 2 ^ k) (shl-lt t k h) ∙ rw (pow-add 2 t k, add-mul, mul-assoc)
-
 -- the number of the window that begins at the byte k
 pub window-is : (s : List ℕ) (k : ℕ) → k + 4 ≤ length s → ((i : ℕ) → getD s i 0 < 2 ^ 8)
-    → bitOr
-    (bitOr (bitOr (getD s k 0 * 2 ^ 24 % 2 ^ 64) (getD s (k + 1) 0 * 2 ^ 16 % 2 ^ 64)) (getD s (k + 2) 0 * 2 ^ 8 % 2 ^ 64))
-    (getD s (k + 3) 0)
-    ≡ valueOf (fieldBits s 32 (8 * k))
+    → ((getD s k 0 * 2 ^ 8 + getD s (k + 1) 0) * 2 ^ 8 + getD s (k + 2) 0) * 2 ^ 8 + getD s (k + 3) 0 ≡ valueOf (fieldBits s 32 (8 * k))
 unfolding valueOf
 window-is s k h byte =
-    or-bytes (getD s k 0) (getD s (k + 1) 0) (getD s (k + 2) 0) (getD s (k + 3) 0) (byte k) (byte (k + 1)) (byte (k + 2)) (byte (k + 3))
-    ∙ sym (omega (
+    sym (omega (
       arith,
       none,
       rw add-zero at (byte-step s k 0 (omega arith) (byte (k + 0))),

@@ -74,7 +74,7 @@ fn put_row(at: usize, width: usize, value: u64) {
     word(b"put at ", at as u64);
     word(b" width ", width as u64);
     word(b" value ", value);
-    if bits::put(&mut out, at, width, value) {
+    if store::put(&mut out, at, width, value) {
         io::write_all(STDOUT_FILENO, b": wrote");
     } else {
         io::write_all(STDOUT_FILENO, b": left ");

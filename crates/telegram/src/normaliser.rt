@@ -100,7 +100,7 @@ fn patch(s: &[u8], n: usize, out: &mut [u8])
         };
         let x = retell(&rows, s, n, k, v, u, next, from, to);
         if x.value != v {
-            bits::put(out, at, w, x.value);
+            store::put(out, at, w, x.value);
         }
         t = u;
         c = next;

@@ -92,7 +92,7 @@ fn store(values: &[u64], n: usize, out: &mut [u8])
         let k = t.node;
         let w = width(&rows, k);
         let v = values[i];
-        bits::put(out, at, w, v);
+        store::put(out, at, w, v);
         match advance(&rows, t, v) {
             Ahead::Mark => {
                 return;

@@ -24,11 +24,14 @@ loop-holds c = (omega arith, refl)
 add-k : tie.Need-add-k Inv-loop μ-loop
 add-k c = omega arith
 
-sub-in-byte : tie.Need-sub-in-byte Inv-loop μ-loop
-sub-in-byte c = omega arith
+sub-lower : tie.Need-sub-lower Inv-loop μ-loop
+sub-lower c = omega arith
 
-in-byte-requires : tie.Need-in-byte-requires Inv-loop μ-loop
-in-byte-requires c κs = search needs
+sub-lower-2 : tie.Need-sub-lower-2 Inv-loop μ-loop
+sub-lower-2 c = omega arith
+
+lower-requires : tie.Need-lower-requires Inv-loop μ-loop
+lower-requires c κs = search needs
 
 sub-low : tie.Need-sub-low Inv-loop μ-loop
 sub-low c = omega arith
@@ -39,28 +42,31 @@ sub-low-2 c = omega arith
 shl-v : tie.Need-shl-v Inv-loop μ-loop
 shl-v c = omega arith
 
-shared-slice-read-part : tie.Need-shared-slice-read-part Inv-loop μ-loop
-shared-slice-read-part c = omega arith
+shared-slice-read-low-bits : tie.Need-shared-slice-read-low-bits Inv-loop μ-loop
+shared-slice-read-low-bits c = omega arith
 
-cast-part : tie.Need-cast-part Inv-loop μ-loop
-cast-part c = omega (arith, c .shared-slice-known2 .given ((c .before .before .before .before .before .args .at + c .before .before .before .loop .got) / 8))
+cast-low-bits : tie.Need-cast-low-bits Inv-loop μ-loop
+cast-low-bits c = omega (arith, c .shared-slice-known2 .given ((c .before .before .before .before .before .args .at + c .before .before .before .loop .got) / 8))
 
-part-requires : tie.Need-part-requires Inv-loop μ-loop
-part-requires c κs = omega arith
+shr-low-bits : tie.Need-shr-low-bits Inv-loop μ-loop
+shr-low-bits c = omega arith
+
+low-bits-requires : tie.Need-low-bits-requires Inv-loop μ-loop
+low-bits-requires c κs = search needs
 
 add-got : tie.Need-add-got Inv-loop μ-loop
 add-got c = omega arith
 
 loop-less : tie.Need-loop-less Inv-loop μ-loop
-loop-less c = omega (arith, c .before .before .in-byte .ensures .2 (omega arith))
+loop-less c = omega arith
 
 loop-again : tie.Need-loop-again Inv-loop μ-loop
 loop-again c =
     let a = c .before .before .before .before .before .before .args in
     let l = c .before .before .before .before .loop in (
       omega arith,
-      take-again (now (a .s)) (a .at) (l .got) (c .before .before .in-byte .result) _ (l .v) (c .part .result)
-          (l .inv .1) (c .part .ensures) (omega arith) (omega arith) (omega arith),
+      take-again (now (a .s)) (a .at) (l .got) (c .before .before .lower .result) _ (l .v) (c .low-bits .result)
+          (l .inv .1) (c .low-bits .ensures) (omega arith) (omega arith) (omega arith),
     )
 
 returns : tie.Need-returns Inv-loop μ-loop
@@ -75,14 +81,16 @@ joined-spec =
     μ-loop
     loop-holds
     add-k
-    sub-in-byte
-    in-byte-requires
+    sub-lower
+    sub-lower-2
+    lower-requires
     sub-low
     sub-low-2
     shl-v
-    shared-slice-read-part
-    cast-part
-    part-requires
+    shared-slice-read-low-bits
+    cast-low-bits
+    shr-low-bits
+    low-bits-requires
     add-got
     loop-less
     loop-again

@@ -6,6 +6,8 @@ use native.Mathlib.Omega.{arith}
 use borrow.Author.Needs.{needs}
 use borrow.Author.Tests.{not-true, not-false}
 use denote.Ref.{now}
+use lib.ListN.{length}
+use Rattle.word64.proofs.Words.{narrow}
 use Rattle.bits.specs.Bits.{valueOf}
 use Rattle.bits.specs.Take.{fieldBits}
 use Rattle.bits.proofs.Fields.{IsField, inside-field, take-whole, take-outside}
@@ -34,11 +36,12 @@ joined-requires c κs = let i = whole (c .before) in omega arith
 windowed-requires : tie.Need-windowed-requires
 windowed-requires c κs =
     let i = whole (c .before) in
-    let n = c .before .wide .ensures (c .if2 .left) in
+    let a = c .before .before .before .before .before .args in
+    let n = narrow (length (now (a .s))) (a .width) (sym (c .before .wide .ensures) ∙ c .if2 .left) in
     omega arith
 
-add-t11 : tie.Need-add-t11
-add-t11 c = let i = whole (c .before) in omega arith
+add-t10 : tie.Need-add-t10
+add-t10 c = let i = whole (c .before) in omega arith
 
 -- by whichever way it was read
 number : (c : tie.Joined2) → let a = c .before .before .before .before .before .args in
@@ -59,5 +62,5 @@ take-spec =
     wide-requires
     joined-requires
     windowed-requires
-    add-t11
+    add-t10
     returns-2)

@@ -1,10 +1,11 @@
--- `bits::splice` meets its contract: shifts and masks put three parts of a number together. Assumes nothing.
+-- `store::splice` meets its contract: shifts and masks put three parts of a number together. Assumes nothing.
 use native.Mathlib.Omega.{arith}
 use borrow.Author.Needs.{needs}
 use lib.Pow.{pow-pos}
-use Rattle.bits.proofs.Loops.{one-shl, splice-is}
-use Rattle.bits.proofs.splice.Statement.{statement}
-use Rattle.bits.proofs.splice.Tie as tie
+use Rattle.word64.proofs.Words.{one-shl}
+use Rattle.bits.proofs.Loops.{splice-is}
+use Rattle.store.proofs.splice.Statement.{statement}
+use Rattle.store.proofs.splice.Tie as tie
 
 add-top : tie.Need-add-top
 add-top c = search needs

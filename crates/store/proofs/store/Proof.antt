@@ -1,11 +1,11 @@
--- `bits::store` meets its contract: the length does not change, and four bytes stored are a field of 32 bits. Assumes nothing.
+-- `store::store` meets its contract: the length does not change, and four bytes stored are a field of 32 bits. Assumes nothing.
 use native.Mathlib.Omega.{arith}
 use borrow.Author.Needs.{needs}
 use denote.Ref.{now}
 use lib.ListN.{length-set}
 use Rattle.bits.proofs.Windows.{stored}
-use Rattle.bits.proofs.store.Statement.{statement}
-use Rattle.bits.proofs.store.Tie as tie
+use Rattle.store.proofs.store.Statement.{statement}
+use Rattle.store.proofs.store.Tie as tie
 
 byte-requires : tie.Need-byte-requires
 byte-requires c κs = search needs

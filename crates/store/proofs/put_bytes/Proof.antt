@@ -1,4 +1,4 @@
--- `bits::put_bytes` meets its contract. The loop's invariant: the done highest bits of the field stand at at, every other bit is
+-- `store::put_bytes` meets its contract. The loop's invariant: the done highest bits of the field stand at at, every other bit is
 -- as it was. The measure is how many bits are left. Assumes nothing.
 use mathlib.Core.Path.{_≡_, refl, sym}
 use mathlib.Core.List.{_++_}
@@ -9,11 +9,11 @@ use borrow.Author.Needs.{needs}
 use denote.Ref.{now}
 use lib.ListN.{length, take, drop, length-set, take-append-drop}
 use lib.Pow.{pow-pos}
 use Rattle.bits.specs.Bits.{digits, bitsOf}
 use Rattle.bits.specs.Put.{over}
 use Rattle.bits.proofs.Loops.{put-again, splice-lt}
-use Rattle.bits.proofs.put_bytes.Statement.{statement}
-use Rattle.bits.proofs.put_bytes.Tie as tie
+use Rattle.store.proofs.put_bytes.Statement.{statement}
+use Rattle.store.proofs.put_bytes.Tie as tie
 
 abbrev Inv-loop : tie.InvT-loop
 Inv-loop out₀ at width value first off done₀ out done =
@@ -38,11 +38,14 @@ add-k c = omega arith
 add-q : tie.Need-add-q Inv-loop μ-loop
 add-q c = omega arith
 
-sub-in-byte : tie.Need-sub-in-byte Inv-loop μ-loop
-sub-in-byte c = omega arith
+sub-lower : tie.Need-sub-lower Inv-loop μ-loop
+sub-lower c = omega arith
 
-in-byte-requires : tie.Need-in-byte-requires Inv-loop μ-loop
-in-byte-requires c κs = search needs
+sub-lower-2 : tie.Need-sub-lower-2 Inv-loop μ-loop
+sub-lower-2 c = omega arith
+
+lower-requires : tie.Need-lower-requires Inv-loop μ-loop
+lower-requires c κs = search needs
 
 sub-rest : tie.Need-sub-rest Inv-loop μ-loop
 sub-rest c = omega arith
@@ -58,8 +61,11 @@ cast-splice c =
     let a = c .before .before .before .before .before .args in
     omega (arith, c .slice-known2 .given (a .at / 8 + (a .at % 8 + c .before .before .before .loop .done) / 8))
 
-part-requires : tie.Need-part-requires Inv-loop μ-loop
-part-requires c κs = omega (arith, c .before .in-byte .ensures .2 (omega arith))
+shr-low-bits : tie.Need-shr-low-bits Inv-loop μ-loop
+shr-low-bits c = omega arith
+
+low-bits-requires : tie.Need-low-bits-requires Inv-loop μ-loop
+low-bits-requires c κs = search needs
 
 sub-splice : tie.Need-sub-splice Inv-loop μ-loop
 sub-splice c = omega arith
@@ -68,15 +74,15 @@ sub-splice-2 : tie.Need-sub-splice-2 Inv-loop μ-loop
 sub-splice-2 c = omega arith
 
 splice-requires : tie.Need-splice-requires Inv-loop μ-loop
-splice-requires c κs = (omega arith, rw (c .part .ensures) (mod-lt _ (pow-pos (c .before .before .in-byte .result))))
+splice-requires c κs = (omega arith, rw (c .low-bits .ensures) (mod-lt _ (pow-pos (c .before .before .lower .result))))
 
 -- what is written is a byte
 written : (c : tie.After-splice Inv-loop μ-loop) → c .splice .result < 2 ^ 8
 written c =
-    let t = c .before .before .before .in-byte .result in
+    let t = c .before .before .before .lower .result in
     rw (c .splice .ensures)
-    (splice-lt 8 _ (c .before .part .result) t _ (c .before .before .slice-known2 .given _ .fits) (omega arith)
-    (rw (c .before .part .ensures) (mod-lt _ (pow-pos t))))
+    (splice-lt 8 _ (c .before .low-bits .result) t _ (c .before .before .slice-known2 .given _ .fits) (omega arith)
+    (rw (c .before .low-bits .ensures) (mod-lt _ (pow-pos t))))
 
 cast-out : tie.Need-cast-out Inv-loop μ-loop
 cast-out c = record { fits = written c }
@@ -88,18 +94,18 @@ add-done : tie.Need-add-done Inv-loop μ-loop
 add-done c = omega arith
 
 loop-less : tie.Need-loop-less Inv-loop μ-loop
-loop-less c = omega (arith, c .before .before .before .in-byte .ensures .2 (omega arith))
+loop-less c = omega arith
 
 loop-again : tie.Need-loop-again Inv-loop μ-loop
 loop-again c =
     let a = c .before .before .before .before .before .before .before .args in
     let l = c .before .before .before .before .before .loop in
-    let t = c .before .before .before .in-byte .result in
-    let pos : 0 < t = c .before .before .before .in-byte .ensures .2 (omega arith) in (
+    let t = c .before .before .before .lower .result in
+    let pos : 0 < t = omega arith in (
       omega arith,
       simp length-set (l .inv .1),
-      put-again (now (a .out)) (l .out) (a .at) (a .width) (l .done) t _ (a .value) (c .before .part .result) (c .splice .result)
-          (omega arith) (omega arith) pos (l .inv .1) (omega arith) (l .inv .2) (c .before .part .ensures) (c .splice .ensures),
+      put-again (now (a .out)) (l .out) (a .at) (a .width) (l .done) t _ (a .value) (c .before .low-bits .result) (c .splice .result)
+          (omega arith) (omega arith) pos (l .inv .1) (omega arith) (l .inv .2) (c .before .low-bits .ensures) (c .splice .ensures),
     )
 
 same-length : tie.Need-same-length Inv-loop μ-loop
@@ -121,13 +127,15 @@ put-bytes-spec =
     loop-holds
     add-k
     add-q
-    sub-in-byte
-    in-byte-requires
+    sub-lower
+    sub-lower-2
+    lower-requires
     sub-rest
     sub-rest-2
     slice-read-splice
     cast-splice
-    part-requires
+    shr-low-bits
+    low-bits-requires
     sub-splice
     sub-splice-2
     splice-requires

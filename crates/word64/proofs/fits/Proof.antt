@@ -1,4 +1,4 @@
--- `bits::fits` meets its contract: a number of 64 bits fits into 64 bits and more; into fewer, if nothing is left of it once
+-- `word64::fits` meets its contract: a number of 64 bits fits into 64 bits and more; into fewer, if nothing is left of it once
 -- they are shifted out. Assumes nothing.
 use mathlib.Core.Path.{sym}
 use Prim.Native.Nat.{_^_}
@@ -7,9 +7,9 @@ use native.Mathlib.Omega.{arith}
 use borrow.Author.Tests.{lt-ltb}
 use borrow.Author.Needs.{needs}
 use lib.Pow.{pow-mono}
-use Rattle.bits.proofs.Loops.{shifted-out}
-use Rattle.bits.proofs.fits.Statement.{statement}
-use Rattle.bits.proofs.fits.Tie as tie
+use Rattle.word64.proofs.Words.{shifted-out}
+use Rattle.word64.proofs.fits.Statement.{statement}
+use Rattle.word64.proofs.fits.Tie as tie
 
 returns : tie.Need-returns
 returns c = sym (lt-ltb (c .before .args .value) (2 ^ c .before .args .width) (lt-of-lt-of-le (c .before .fits .value .fits) (pow-mono {i = 64} (omega arith))))

@@ -1,4 +1,4 @@
--- `bits::put` meets its contract: each test answers one of the definition's, and both ways of writing leave the same bits. Assumes nothing.
+-- `store::put` meets its contract: each test answers one of the definition's, and both ways of writing leave the same bits. Assumes nothing.
 use mathlib.Core.Path.{_≡_, sym, _∙_}
 use mathlib.Core.Bool.{true}
 use Prim.Native.Nat.{_^_}
@@ -7,10 +7,12 @@ use borrow.Author.Needs.{needs}
 use borrow.Author.Tests.{not-true, not-false, ltb-true}
 use denote.Ref.{now}
 use lib.Dec.{ltb}
+use lib.ListN.{length}
+use Rattle.word64.proofs.Words.{narrow}
 use Rattle.bits.proofs.Bytes.{below-known}
 use Rattle.bits.proofs.Fields.{put-wide, put-past, put-large, put-whole}
-use Rattle.bits.proofs.put.Statement.{statement}
-use Rattle.bits.proofs.put.Tie as tie
+use Rattle.store.proofs.put.Statement.{statement}
+use Rattle.store.proofs.put.Tie as tie
 
 returns : tie.Need-returns
 returns c = let a = c .before .before .args in put-wide (now (a .out)) (a .at) (a .width) (a .value) (c .if1 .taken)
@@ -45,12 +47,13 @@ put-bytes-requires : tie.Need-put-bytes-requires
 put-bytes-requires c κs = omega arith
 
 -- past the tests the value fits
-small : (c : tie.After-wide) → let a = c .before .before .before .before .before .before .before .args in ltb (a .value) (2 ^ a .width) ≡ true
-small c = sym (c .before .before .before .fits2 .ensures) ∙ not-false _ (c .before .before .if3 .left)
+small : (c : tie.After-wide) → let a = c .before .before .before .before .before .before .args in ltb (a .value) (2 ^ a .width) ≡ true
+small c = sym (c .before .before .fits2 .ensures) ∙ not-false _ (c .before .if3 .left)
 
 put-window-requires : tie.Need-put-window-requires
 put-window-requires c κs =
-    let n = c .before .before .wide .ensures (c .before .if4 .left) in
+    let a = c .before .before .before .before .before .before .before .before .args in
+    let n = narrow (length (now (a .out))) (a .width) (sym (c .before .before .wide .ensures) ∙ c .before .if4 .left) in
     (n .0, n .1, omega arith, ltb-true _ _ (small (c .before .before)))
 
 same-length : tie.Need-same-length
@@ -59,7 +62,7 @@ same-length c = search needs
 returns-4 : tie.Need-returns-4
 returns-4 c =
     let w = c .before .before .before .before .before in
-    let a = w .before .before .before .before .before .before .before .args in
+    let a = w .before .before .before .before .before .before .args in
     let t = c .before .before .put-bytes .last .0 in
     put-whole (now (a .out)) (a .at) (a .width) (a .value) (omega arith) (omega arith) (small w) t
     (below-known 256 t (λ i. c .slice-known2 .given i .fits)) (c .before .before .put-bytes .ensures)
@@ -70,7 +73,7 @@ same-length-2 c = search needs
 returns-5 : tie.Need-returns-5
 returns-5 c =
     let w = c .before .before .before .before .before in
-    let a = w .before .before .before .before .before .before .before .args in
+    let a = w .before .before .before .before .before .before .args in
     let t = c .before .before .put-window .last .0 in
     put-whole (now (a .out)) (a .at) (a .width) (a .value) (omega arith) (omega arith) (small w) t
     (below-known 256 t (λ i. c .slice-known3 .given i .fits)) (c .before .before .put-window .ensures)

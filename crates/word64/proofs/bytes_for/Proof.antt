@@ -1,7 +1,7 @@
--- `bits::bytes_for` meets its contract: rounding up whole bytes and what is left apart is rounding up their sum. Assumes nothing.
+-- `word64::bytes_for` meets its contract: rounding up whole bytes and what is left apart is rounding up their sum. Assumes nothing.
 use native.Mathlib.Omega.{arith}
-use Rattle.bits.proofs.bytes_for.Statement.{statement}
-use Rattle.bits.proofs.bytes_for.Tie as tie
+use Rattle.word64.proofs.bytes_for.Statement.{statement}
+use Rattle.word64.proofs.bytes_for.Tie as tie
 
 add-result : tie.Need-add-result
 add-result c = omega arith

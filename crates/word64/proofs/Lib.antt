@@ -1,0 +1,2 @@
+-- The laws of words of 64 bits.
+pub mod Words
