@@ -1,16 +1,12 @@
 -- Answers as text. Definitions alone.
-use mathlib.Core.List.{List, [], _∷_, _++_}
+use mathlib.Core.List.{List, _++_}
 use Prim.Native.Nat.{ℕ}
 use lib.ListN.{length}
 use Rattle.format.specs.declared.Answer.{Answer}
 use Rattle.format.specs.declared.Answer.the-variants.{Accepted, Refused}
 use Rattle.pieces.specs.Numbers.{decimal}
-use Rattle.queue.specs.Texts.{space, newline, refusalText}
+use Rattle.queue.specs.Texts.{space, newline, okWord, refusalText}
 use Rattle.answers.specs.Lines.{answerTo}
-
--- `ok` (111, 107) and a space
-abbrev pub okWord : List ℕ
-okWord = 111 ∷ 107 ∷ 32 ∷ []
 
 abbrev pub accepted : ℕ → ℕ → List ℕ
 accepted n count = okWord ++ decimal n ++ space ++ decimal count ++ newline

@@ -1,4 +1,4 @@
--- Refusals as text. Definitions alone.
+-- Words and refusals as text. Definitions alone.
 use mathlib.Core.List.{List, [], _∷_, _++_}
 use Prim.Native.Nat.{ℕ}
 use Rattle.format.specs.Refusals.{numberOf}
@@ -10,6 +10,10 @@ space = 32 ∷ []
 
 abbrev pub newline : List ℕ
 newline = 10 ∷ []
+
+-- `ok` and a space
+abbrev pub okWord : List ℕ
+okWord = 111 ∷ 107 ∷ 32 ∷ []
 
 -- `refused` and a space
 abbrev pub refusedWord : List ℕ

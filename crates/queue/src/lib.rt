@@ -7,7 +7,7 @@ ghost use Prim.Native.Nat.{_+_, _*_, _^_, _<_, _≤_, min};
 ghost use lib.ListN.{length, take, getD};
 ghost use Rattle.bits.specs.Bits.{bitsOf};
 ghost use Rattle.pieces.specs.Numbers.{decimal};
-ghost use Rattle.queue.specs.Waiting.{Joins};
+ghost use Rattle.queue.specs.Waiting.{Joins, Flushed};
 ghost use Rattle.packing.specs.Packing.{characters};
 ghost use Rattle.queue.specs.Texts.{refusalText};
 use format::Refusal;
@@ -24,11 +24,12 @@ pub fn put(out: &mut [u8], q: Queue, c: u8) -> Queue
     ensures { λ r. ⌜ Joins (c ∷ []) q (now (out .entry)) r (now (out .exit)) ⌝ }
 {
     let at = q.waiting;
+    let lost = q.lost;
     if at < out.len() {
         out[at] = c;
         return Queue {
             waiting: at + 1,
-            lost: q.lost,
+            lost,
         };
     }
     if out.len() == 0 {
@@ -45,11 +46,17 @@ pub fn put(out: &mut [u8], q: Queue, c: u8) -> Queue
     }
 }
 
-// Writes all that waits.
+// Writes all that waits; where nothing does, nothing is written.
 pub fn flush(out: &[u8], q: Queue) -> Queue
-    ensures { λ r. ⌜ (r .waiting ≡ 0) × (q .lost ≡ true → r .lost ≡ true) ⌝ }
+    ensures { λ r. ⌜ Flushed q (now (out .entry)) r ⌝ }
 {
     let n = least(q.waiting, out.len());
+    if n == 0 {
+        return Queue {
+            waiting: 0,
+            lost: q.lost,
+        };
+    }
     let wrote = io::write_all(STDOUT_FILENO, &out[..n]);
     let lost = if wrote { q.lost } else { true };
     Queue { waiting: 0, lost }

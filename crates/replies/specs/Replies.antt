@@ -12,13 +12,9 @@ use Rattle.format.specs.declared.Answer.{Answer}
 use Rattle.format.specs.declared.Answer.the-variants.{Accepted, Refused}
 use Rattle.packing.specs.Packing.{binary, bitsIn, characters}
 use Rattle.pieces.specs.Numbers.{decimal}
-use Rattle.queue.specs.Texts.{space, newline, refusalText}
+use Rattle.queue.specs.Texts.{space, newline, okWord, refusalText}
 use Rattle.states.specs.Normaliser.{normalOf}
 use Rattle.states.specs.Reader.{checked}
-
--- `ok` (111, 107) and a space
-abbrev pub okWord : List ℕ
-okWord = 111 ∷ 107 ∷ 32 ∷ []
 
 -- `not a question`
 abbrev pub noQuestion : List ℕ
