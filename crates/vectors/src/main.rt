@@ -12,6 +12,8 @@ ghost use mathlib.Core.Path.{_≡_};
 ghost use mathlib.Core.Bool.{true};
 ghost use Prim.Native.Nat.{_<_, _≤_};
 ghost use lib.ListN.{length};
+ghost use Rattle.queue.specs.Waiting.{Joins};
+ghost use Rattle.vectors.specs.Told.{told};
 use blocks::Input;
 use libc::STDERR_FILENO;
 use queue::Queue;
@@ -52,6 +54,7 @@ fn goes_on(input: Input, q: Queue, turns: u64) -> bool
 // Puts the answer to the line in hand, if it is whole. Of one that fills what is lent for it, more may be missing.
 fn answered(line: &[u8], input: Input, out: &mut [u8], q: Queue) -> Queue
     requires { ⌜ input .kept ≤ length (now line) ⌝ }
+    ensures { λ r. ⌜ Joins (told (input .whole) (now (line .entry)) (input .kept)) q (now (out .entry)) r (now (out .exit)) ⌝ }
 {
     if !input.whole {
         return q;
