@@ -1,11 +1,11 @@
 -- `vectors::answered` meets its contract: one case for each of the three things that it puts. Assumes nothing.
-use mathlib.Core.Path.{_≡_, refl, sym}
+use mathlib.Core.Path.{_≡_, sym}
 use mathlib.Core.Bool.{Bool, true, false, not}
 use mathlib.Core.List.{List, []}
 use Prim.Native.Nat.{ℕ}
 use denote.Ref.{now}
 use native.Mathlib.Omega.{arith}
-use borrow.Author.Tests.{eq-eqb, ne-eqb}
+use borrow.Author.Tests.{eq-eqb, ne-eqb, not-true, not-false}
 use lib.ListN.{length, take}
 use lib.Seq.{length-take-le}
 use Rattle.queue.proofs.Joining.{joins-nothing, joins-as}
@@ -16,23 +16,15 @@ use borrow.Author.Needs.{needs}
 use Rattle.vectors.proofs.answered.Statement.{statement}
 use Rattle.vectors.proofs.answered.Tie as tie
 
-off : (b : Bool) → not b ≡ true → b ≡ false
-off true e = sym e
-off false e = refl
-
-on : (b : Bool) → not b ≡ false → b ≡ true
-on true e = refl
-on false e = sym e
-
 module _ (whole : Bool) (line : List ℕ) (n : ℕ) where
   unfinished : not whole ≡ true → [] ≡ told whole line n
-  unfinished w = rw (off whole w)
+  unfinished w = rw (not-true whole w)
 
   filled : not whole ≡ false → n ≡ length line → noQuestion ≡ told whole line n
-  filled w e = rw (on whole w) (rw (eq-eqb n (length line) e))
+  filled w e = rw (not-false whole w) (rw (eq-eqb n (length line) e))
 
   replied : not whole ≡ false → (n ≡ length line → ⊥) → replyTo (take n line) ≡ told whole line n
-  replied w e = rw (on whole w) (rw (ne-eqb n (length line) e))
+  replied w e = rw (not-false whole w) (rw (ne-eqb n (length line) e))
 
 returns : tie.Need-returns
 returns c =
