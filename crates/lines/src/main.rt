@@ -2,7 +2,7 @@
 //
 // Of a line that may reach over any number of blocks, as many characters are kept as tell its answer.
 ghost use mathlib.Core.Path.{_≡_};
-ghost use mathlib.Core.Bool.{true, cond};
+ghost use mathlib.Core.Bool.{true, false, cond};
 ghost use mathlib.Core.List.{List, []};
 ghost use Prim.Native.Nat.{ℕ, _<_, _≤_};
 ghost use lib.ListN.{length, take};
@@ -34,7 +34,7 @@ fn main() {
 
 // Whether to read on. Once a write failed, no further answer can arrive whole.
 fn goes_on(input: Input, q: Queue, turns: u64) -> bool
-    ensures { λ r. ⌜ (r ≡ true → 0 < turns) ⌝ }
+    ensures { λ r. ⌜ (r ≡ true → (input .ended ≡ false) × (0 < turns)) ⌝ }
 {
     if q.lost {
         return false;

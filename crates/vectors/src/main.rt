@@ -9,7 +9,7 @@
 // to a number past 64 bits, and to a line of more than 65,535 characters: a question has so many only with thousands of needless
 // zeros.
 ghost use mathlib.Core.Path.{_≡_};
-ghost use mathlib.Core.Bool.{true};
+ghost use mathlib.Core.Bool.{true, false};
 ghost use Prim.Native.Nat.{_<_, _≤_};
 ghost use lib.ListN.{length};
 ghost use Rattle.queue.specs.Waiting.{Joins};
@@ -40,7 +40,7 @@ fn main() {
 
 // Whether to read on. Once a write failed, no further answer can arrive whole.
 fn goes_on(input: Input, q: Queue, turns: u64) -> bool
-    ensures { λ r. ⌜ (r ≡ true → 0 < turns) ⌝ }
+    ensures { λ r. ⌜ (r ≡ true → (input .ended ≡ false) × (0 < turns)) ⌝ }
 {
     if q.lost {
         return false;
