@@ -1,4 +1,4 @@
--- The first 831 characters of a line are enough for its answer. Assumes nothing.
+-- The first 831 characters of a line, or more, are enough for its answer. Assumes nothing.
 use mathlib.Core.Path.{_≡_, refl, sym, ap, _∙_}
 use mathlib.Core.Bool.{Bool, true, false, cond}
 use mathlib.Core.List.{List}
@@ -14,7 +14,7 @@ use Rattle.format.specs.Rules.{paper}
 use Rattle.states.specs.Reader.{checked, answerOf}
 use Rattle.packing.specs.Packing.{binary, bitsIn}
 use Rattle.answers.specs.Lines.{answerTo, noTelegram, most}
-use Rattle.answers.specs.Text.{textOf, responseTo}
+use Rattle.answers.specs.Text.{textOf, responseTo, TellsLine}
 
 -- ---- the answer to what is kept
 
@@ -46,12 +46,13 @@ long-response : (line : List ℕ) → 830 < length line → responseTo line ≡ 
 unfolding textOf
 long-response line h = ap (textOf (length line)) (long-refused line h)
 
--- so a program may keep as many of a line
-pub kept-responds : (line : List ℕ) → responseTo (take most line) ≡ responseTo line
-kept-responds line = by (decLe (length line) most)
+-- so a program may keep as many of a line, or more
+pub kept-responds : (m : ℕ) → most ≤ m → TellsLine m
+kept-responds m g = record { tells = λ line. by line (decLe (length line) m) }
   where
-    by : Dec (length line ≤ most) → responseTo (take most line) ≡ responseTo line
-    by (yes h) = ap responseTo (take-all most line h)
-    by (no h) =
+    by : (line : List ℕ) → Dec (length line ≤ m) → responseTo (take m line) ≡ responseTo line
+    by line (yes h) = ap responseTo (take-all m line h)
+    by line (no h) =
         let l = lt-of-not-le h in
-        long-response (take most line) (rw (length-take-le most line (omega arith)) (omega arith)) ∙ sym (long-response line (omega arith))
+        let many = length-take-le m line (omega arith) in
+        long-response (take m line) (omega (arith, many)) ∙ sym (long-response line (omega arith))

@@ -1,13 +1,24 @@
 // What is answered to a line that writes a telegram as characters 0 and 1: whether it is one.
 ghost use mathlib.Core.Path.{_≡_};
+ghost use lib.ListN.{length};
 ghost use Rattle.answers.specs.Lines.{answerTo, noTelegram};
-ghost use Rattle.answers.specs.Text.{accepted, textOf, responseTo};
+ghost use Rattle.answers.specs.Text.{accepted, textOf, responseTo, TellsLine};
 ghost use Rattle.queue.specs.Waiting.{Joins};
 use format::Answer;
 use format::Kind;
 use format::Refusal;
 use packing::Packed;
 use queue::Queue;
+
+// No telegram has more than 830 bits. A line of 831 characters or more is refused for that, whatever they are.
+const LINE: usize = 831;
+
+// A buffer for as much of a line as tells its answer.
+pub fn line_buffer() -> [u8; LINE]
+    ensures { λ r. ⌜ TellsLine (length r) ⌝ }
+{
+    [0; LINE]
+}
 
 // Puts the answer to a whole line.
 pub fn respond(line: &[u8], out: &mut [u8], q: Queue) -> Queue

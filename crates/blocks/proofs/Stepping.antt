@@ -7,11 +7,11 @@ use Prim.Native.Nat.{ℕ, _+_, _-_, _≤_, _<_, min}
 use native.Mathlib.Nat.{lt-of-not-le}
 use native.Mathlib.Decide.{decLe}
 use native.Mathlib.Omega.{arith}
-use borrow.Author.Tests.{lt-ltb, le-ltb}
+use borrow.Author.Tests.{lt-ltb, le-ltb, eq-eqb, ne-eqb}
 use lib.ListN.{length, take, drop, length-take, length-drop, length-append, drop-of-length-le}
 use lib.Seq.{take-all, length-take-le}
 use Rattle.blocks.specs.Ends.{upToEnd, ends, EndsAt}
-use Rattle.blocks.specs.Reading.{left, held, fitting, over, inHand, stop, takenOn, TakesOn, stopped, fresh, Within, Arrives, Arrival, Steps, Held, Keeps}
+use Rattle.blocks.specs.Reading.{left, held, fitting, over, inHand, stop, takenOn, TakesOn, stopped, fresh, arrivedAt, arrivedLine, Arrives, Arrival, Steps, Held, Keeps}
 use Rattle.blocks.specs.declared.Filled.{Filled}
 use Rattle.blocks.specs.declared.Filled.the-variants.{Bytes, Failed}
 use Rattle.blocks.specs.declared.Input.{Input}
@@ -103,17 +103,64 @@ module _ (block line : List ℕ) (i : Input) (to from e h kept : ℕ) (line′ :
 
 -- ---- a block that arrives
 
+module _ (block line : List ℕ) (i : Input) (n : ℕ) where
+  module _ (z : n ≡ 0) where
+    none-at : arrivedAt block line i (Bytes n) ≡ stopped (length (held line i)) false
+    none-at = rw (eq-eqb n 0 z)
+
+    none-line : arrivedLine block line i (Bytes n) ≡ line
+    none-line = rw (eq-eqb n 0 z)
+
+  module _ (some : n ≡ 0 → ⊥) where
+    some-at : arrivedAt block line i (Bytes n) ≡ takenOn block line (fresh n i)
+    some-at = rw (ne-eqb n 0 some)
+
+    some-line : arrivedLine block line i (Bytes n) ≡ over (inHand block line (fresh n i)) line
+    some-line = rw (ne-eqb n 0 some)
+
 module _ (block line : List ℕ) (i : Input) (got : Filled) where
   pub arrives-failed : (r : Input) → got ≡ Failed → r ≡ stopped 0 true → Arrives block line i got r line
-  arrives-failed r e f = rw e (f, refl)
+  arrives-failed r e f = rw e (record { stands = f; text = refl })
 
   module _ (n : ℕ) (e : got ≡ Bytes n) where
     pub arrives-none : (r : Input) (h : ℕ) → n ≡ 0 → Held line i h → r ≡ stopped h false → Arrives block line i got r line
     arrives-none r h z g f =
-        rw e ((λ _. (f ∙ ap (λ (m : ℕ). stopped m false) (held-length line i h g), refl)), (λ some. absurd (some z)))
+        rw e (record {
+          stands = f ∙ ap (λ (m : ℕ). stopped m false) (held-length line i h g) ∙ sym (none-at block line i n z);
+          text = sym (none-line block line i n z);
+        })
 
     pub arrives-some : (r : Input) (line′ : List ℕ) → (n ≡ 0 → ⊥) → TakesOn block line (fresh n i) r line′ → Arrives block line i got r line′
-    arrives-some r line′ some g = rw e ((λ z. absurd (some z)), (λ _. g))
+    arrives-some r line′ some g =
+        rw e (record { stands = g .stands ∙ sym (some-at block line i n some); text = g .text ∙ sym (some-line block line i n some) })
+
+-- ---- one step
+
+module _ (block line : List ℕ) (i : Input) where
+  pub steps-nowhere : i .ended ≡ true → Steps block line i i block line
+  steps-nowhere e =
+      record {
+        stays = λ _. (refl, refl, refl);
+        goes = λ o. let z : _≡_ {A = ℕ} 0 1 = cc in absurd (omega arith);
+        reads = λ o. let z : _≡_ {A = ℕ} 0 1 = cc in absurd (omega arith);
+      }
+
+  module _ (o : i .ended ≡ false) (r : Input) (line′ : List ℕ) where
+    pub steps-on : i .from < i .to → TakesOn block line i r line′ → Steps block line i r block line′
+    steps-on l g =
+        record {
+          stays = λ e. let z : _≡_ {A = ℕ} 0 1 = cc in absurd (omega arith);
+          goes = λ _ _. (refl, g);
+          reads = λ _ m. absurd (omega (arith, l, m));
+        }
+
+    pub steps-read : (block′ : List ℕ) → i .to ≤ i .from → Arrival block′ line i r line′ → Steps block line i r block′ line′
+    steps-read block′ l g =
+        record {
+          stays = λ e. let z : _≡_ {A = ℕ} 0 1 = cc in absurd (omega arith);
+          goes = λ _ m. absurd (omega (arith, l, m));
+          reads = λ _ _. g;
+        }
 
 -- ---- what is kept lies within the line
 
@@ -133,19 +180,24 @@ takes-fit {block} {line} {line′} {i} {r} h =
     omega (arith, n, l)
 
 arrives-fit : (block line line′ : List ℕ) (i r : Input) (got : Filled) → Arrives block line i got r line′ → r .kept ≤ length line′
-arrives-fit block line line′ i r Failed h = let n : r .kept ≡ 0 = ap (λ (x : Input). x .kept) (h .0) in omega (arith, n)
+arrives-fit block line line′ i r Failed h = let n : r .kept ≡ 0 = ap (λ (x : Input). x .kept) (h .stands) in omega (arith, n)
 arrives-fit block line line′ i r (Bytes n) h = by (decLe n 0)
   where
     by : Dec (n ≤ 0) → r .kept ≤ length line′
     by (yes z) =
-        let a = h .0 (omega arith) in
-        let k : r .kept ≡ length (held line i) = ap (λ (x : Input). x .kept) (a .0) in
-        rw (a .1) (omega (arith, k, held-few line i))
-    by (no z) = takes-fit (h .1 (λ e. z (omega arith)))
+        let none : n ≡ 0 = omega arith in
+        let k : r .kept ≡ length (held line i) = ap (λ (x : Input). x .kept) (h .stands ∙ none-at block line i n none) in
+        let same = ap length (h .text ∙ none-line block line i n none) in
+        omega (arith, k, same, held-few line i)
+    by (no z) =
+        let some : n ≡ 0 → ⊥ = λ e. z (omega arith) in
+        takes-fit {i = fresh n i}
+        (record { stands = h .stands ∙ some-at block line i n some; text = h .text ∙ some-line block line i n some })
 
-pub step-fits : {block line block′ line′ : List ℕ} {i r : Input} → Steps block line i r block′ line′ → r .kept ≤ length line′
-step-fits {block} {line} {block′} {line′} {i} {r} h = by (decLe (i .to) (i .from))
+-- behind the end all stays as it was, whatever that is
+pub step-fits : {block line block′ line′ : List ℕ} {i r : Input} → i .ended ≡ false → Steps block line i r block′ line′ → r .kept ≤ length line′
+step-fits {block} {line} {block′} {line′} {i} {r} o h = by (decLe (i .to) (i .from))
   where
     by : Dec (i .to ≤ i .from) → r .kept ≤ length line′
-    by (yes l) = arrives-fit block′ line line′ i r (h .reads l .got) (h .reads l .arrives)
-    by (no l) = takes-fit (h .goes (lt-of-not-le l) .1)
+    by (yes l) = arrives-fit block′ line line′ i r (h .reads o l .got) (h .reads o l .arrives)
+    by (no l) = takes-fit (h .goes o (lt-of-not-le l) .1)

@@ -29,10 +29,11 @@ left block i = drop (i .from) (take (i .to) block)
 abbrev pub held : List ℕ → Input → List ℕ
 held line i = cond (i .whole) [] (take (i .kept) line)
 
--- the text with its first characters in front of what was lent, as many as find room
+-- as many of the first characters of a text as find room in what is lent for the line
 abbrev pub fitting : List ℕ → List ℕ → List ℕ
 fitting text line = take (length line) text
 
+-- what is lent, with these characters at its front
 abbrev pub over : List ℕ → List ℕ → List ℕ
 over text line = fitting text line ++ drop (length (fitting text line)) line
 
@@ -70,21 +71,32 @@ stopped n failed = record { from = 0; to = 0; kept = n; whole = ltb 0 n; ended =
 abbrev pub fresh : ℕ → Input → Input
 fresh n i = record { from = 0; to = n; kept = i .kept; whole = i .whole; ended = false; failed = false }
 
--- the promise of `arrived`, by what a read brought: a line whose rest cannot be read gets no answer
-abbrev pub Arrives : List ℕ → List ℕ → Input → Filled → Input → List ℕ → Type 0
-Arrives block line i Failed r line′ = (r ≡ stopped 0 true) × (line′ ≡ line)
-Arrives block line i (Bytes n) r line′ =
-    (n ≡ 0 → (r ≡ stopped (length (held line i)) false) × (line′ ≡ line)) × ((n ≡ 0 → ⊥) → TakesOn block line (fresh n i) r line′)
+-- where reading then stands, by what a read brought: a line whose rest cannot be read gets no answer
+abbrev pub arrivedAt : List ℕ → List ℕ → Input → Filled → Input
+arrivedAt block line i Failed = stopped 0 true
+arrivedAt block line i (Bytes n) = cond (eqb n 0) (stopped (length (held line i)) false) (takenOn block line (fresh n i))
 
--- the promise of `next`: what is left of the block is taken on, or else what a read brought, which hangs on the outside
+-- what the line then holds
+abbrev pub arrivedLine : List ℕ → List ℕ → Input → Filled → List ℕ
+arrivedLine block line i Failed = line
+arrivedLine block line i (Bytes n) = cond (eqb n 0) line (over (inHand block line (fresh n i)) line)
+
+-- the promise of `arrived`
+pub record Arrives (block line : List ℕ) (i : Input) (got : Filled) (r : Input) (line′ : List ℕ) : Type 0 where
+  pub stands : r ≡ arrivedAt block line i got
+  pub text : line′ ≡ arrivedLine block line i got
+
+-- something was read into the block, or nothing, which hangs on the outside, and is taken on
 pub record Arrival (block line : List ℕ) (i r : Input) (line′ : List ℕ) : Type 0 where
   pub got : Filled
   pub within : Within block got
   pub arrives : Arrives block line i got r line′
 
+-- the promise of `next`: behind the end all stays as it was; else what is left of the block is taken on, or what a read brought
 pub record Steps (block line : List ℕ) (i r : Input) (block′ line′ : List ℕ) : Type 0 where
-  pub goes : i .from < i .to → (block′ ≡ block) × TakesOn block line i r line′
-  pub reads : i .to ≤ i .from → Arrival block′ line i r line′
+  pub stays : i .ended ≡ true → (r ≡ i) × (block′ ≡ block) × (line′ ≡ line)
+  pub goes : i .ended ≡ false → i .from < i .to → (block′ ≡ block) × TakesOn block line i r line′
+  pub reads : i .ended ≡ false → i .to ≤ i .from → Arrival block′ line i r line′
 
 -- ---- inside
 

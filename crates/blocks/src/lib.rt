@@ -1,5 +1,5 @@
 // Lines out of blocks of standard input. A line may reach over any number of blocks; of each, as many characters are kept as are lent
-// for it. Every function answers every input.
+// for it. Every public function answers every input.
 ghost use mathlib.Core.Path.{_≡_};
 ghost use Prim.Native.Nat.{_≤_, min};
 ghost use lib.ListN.{length};
@@ -45,10 +45,13 @@ pub fn start() -> Input
 }
 
 // One step on: takes on the rest of the block up to the next newline, or reads a block where nothing is left of the one before. A last
-// line with no newline is whole if it is not empty; a line whose rest cannot be read never is.
+// line with no newline is whole if any of it is kept; a line whose rest cannot be read never is. Behind the end there is no step.
 pub fn next(block: &mut [u8], line: &mut [u8], input: Input) -> Input
     ensures { λ r. ⌜ Steps (now (block .entry)) (now (line .entry)) input r (now (block .exit)) (now (line .exit)) ⌝ }
 {
+    if input.ended {
+        return input;
+    }
     if input.from < input.to {
         return take_on(block, line, input);
     }

@@ -1,11 +1,13 @@
 // Reads telegrams from standard input, one a line as characters 0 and 1, and prints for each whether it is one.
 //
-// Of a line that may reach over any number of blocks, the first 831 characters are kept: no telegram has more than 830, so that the
-// answer does not hang on the others.
+// Of a line that may reach over any number of blocks, as many characters are kept as tell its answer.
 ghost use mathlib.Core.Path.{_≡_};
-ghost use mathlib.Core.Bool.{true};
-ghost use Prim.Native.Nat.{_<_, _≤_};
-ghost use lib.ListN.{length};
+ghost use mathlib.Core.Bool.{true, false, cond};
+ghost use mathlib.Core.List.{List, []};
+ghost use Prim.Native.Nat.{ℕ, _<_, _≤_};
+ghost use lib.ListN.{length, take};
+ghost use Rattle.answers.specs.Text.{responseTo, TellsLine};
+ghost use Rattle.queue.specs.Waiting.{Joins};
 use blocks::Input;
 use libc::STDERR_FILENO;
 use queue::Queue;
@@ -14,7 +16,7 @@ use queue::Queue;
 // uses up.
 fn main() {
     let mut block = io::large_buffer();
-    let mut line = [0u8; 831];
+    let mut line = answers::line_buffer();
     let mut out = [0u8; 4096];
     let mut input = blocks::start();
     let mut q = Queue {
@@ -32,7 +34,7 @@ fn main() {
 
 // Whether to read on. Once a write failed, no further answer can arrive whole.
 fn goes_on(input: Input, q: Queue, turns: u64) -> bool
-    ensures { λ r. ⌜ (r ≡ true → 0 < turns) ⌝ }
+    ensures { λ r. ⌜ (r ≡ true → (input .ended ≡ false) × (0 < turns)) ⌝ }
 {
     if q.lost {
         return false;
@@ -43,9 +45,10 @@ fn goes_on(input: Input, q: Queue, turns: u64) -> bool
     0 < turns
 }
 
-// Puts the answer to the line in hand, if it is whole.
+// Puts the answer to the line in hand, if it is whole: to every text of which as much is kept as is lent for it.
 fn answered(line: &[u8], input: Input, out: &mut [u8], q: Queue) -> Queue
-    requires { ⌜ input .kept ≤ length (now line) ⌝ }
+    requires { ⌜ TellsLine (length (now line)) × (input .kept ≤ length (now line)) ⌝ }
+    ensures { λ r. ⌜ ((text : List ℕ) → take (input .kept) (now (line .entry)) ≡ take (length (now (line .entry))) text → Joins (cond (input .whole) (responseTo text) []) q (now (out .entry)) r (now (out .exit))) ⌝ }
 {
     if input.whole {
         let n = input.kept;

@@ -9,9 +9,11 @@
 // to a number past 64 bits, and to a line of more than 65,535 characters: a question has so many only with thousands of needless
 // zeros.
 ghost use mathlib.Core.Path.{_≡_};
-ghost use mathlib.Core.Bool.{true};
+ghost use mathlib.Core.Bool.{true, false};
 ghost use Prim.Native.Nat.{_<_, _≤_};
 ghost use lib.ListN.{length};
+ghost use Rattle.queue.specs.Waiting.{Joins};
+ghost use Rattle.vectors.specs.Told.{told};
 use blocks::Input;
 use libc::STDERR_FILENO;
 use queue::Queue;
@@ -38,7 +40,7 @@ fn main() {
 
 // Whether to read on. Once a write failed, no further answer can arrive whole.
 fn goes_on(input: Input, q: Queue, turns: u64) -> bool
-    ensures { λ r. ⌜ (r ≡ true → 0 < turns) ⌝ }
+    ensures { λ r. ⌜ (r ≡ true → (input .ended ≡ false) × (0 < turns)) ⌝ }
 {
     if q.lost {
         return false;
@@ -52,6 +54,7 @@ fn goes_on(input: Input, q: Queue, turns: u64) -> bool
 // Puts the answer to the line in hand, if it is whole. Of one that fills what is lent for it, more may be missing.
 fn answered(line: &[u8], input: Input, out: &mut [u8], q: Queue) -> Queue
     requires { ⌜ input .kept ≤ length (now line) ⌝ }
+    ensures { λ r. ⌜ Joins (told (input .whole) (now (line .entry)) (input .kept)) q (now (out .entry)) r (now (out .exit)) ⌝ }
 {
     if !input.whole {
         return q;

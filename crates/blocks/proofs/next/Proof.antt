@@ -1,9 +1,12 @@
--- `blocks::next` meets its contract: what is left of the block is taken on, or what a read brought. Assumes nothing.
-use mathlib.Core.Path.{refl}
+-- `blocks::next` meets its contract: one law for each of its ways. Assumes nothing.
 use native.Mathlib.Omega.{arith}
 use borrow.Author.Needs.{needs}
+use Rattle.blocks.proofs.Stepping.{steps-nowhere, steps-on, steps-read}
 use Rattle.blocks.proofs.next.Statement.{statement}
 use Rattle.blocks.proofs.next.Tie as tie
+
+returns : tie.Need-returns
+returns c = steps-nowhere _ _ (c .before .before .before .args .input) (c .if1 .taken)
 
 take-on-requires : tie.Need-take-on-requires
 take-on-requires c κs = search needs
@@ -14,8 +17,8 @@ same-length c = search needs
 same-length-2 : tie.Need-same-length-2
 same-length-2 c = search needs
 
-returns : tie.Need-returns
-returns c = record { goes = λ h. (refl, c .before .before .take-on .ensures); reads = λ h. absurd (omega (arith, c .before .before .before .before .before .if1 .taken)) }
+returns-2 : tie.Need-returns-2
+returns-2 c = steps-on _ _ _ (c .before .before .before .before .before .before .before .if1 .left) _ _ (omega (arith, c .before .before .before .before .before .if2 .taken)) (c .before .before .take-on .ensures)
 
 read-requires : tie.Need-read-requires
 read-requires c κs = search needs
@@ -29,19 +32,22 @@ same-length-3 c = search needs
 same-length-4 : tie.Need-same-length-4
 same-length-4 c = search needs
 
-returns-2 : tie.Need-returns-2
-returns-2 c = record { goes = λ h. absurd (omega (arith, c .before .before .before .before .before .before .before .before .before .if1 .left)); reads = λ h. record { got = c .before .before .before .before .before .before .before .read .result; within = c .before .before .before .before .before .before .before .read .ensures; arrives = c .before .before .arrived .ensures } }
+returns-3 : tie.Need-returns-3
+returns-3 c =
+    let read = c .before .before .before .before .before .before .before .read in
+    steps-read _ _ _ (c .before .before .before .before .before .before .before .before .before .before .before .if1 .left) _ _ _ (omega (arith, c .before .before .before .before .before .before .before .before .before .if2 .left)) (record { got = read .result; within = read .ensures; arrives = c .before .before .arrived .ensures })
 
 pub next-spec : {M : Type 1} → statement M
 next-spec =
     tie.close
     (tie.spec
+    returns
     take-on-requires
     same-length
     same-length-2
-    returns
+    returns-2
     read-requires
     arrived-requires
     same-length-3
     same-length-4
-    returns-2)
+    returns-3)

@@ -1,16 +1,17 @@
--- `lines::main` is safe and ends. The loop's invariant: what is lent has its length. The measure is the number of turns that are left.
--- Assumes nothing.
-use mathlib.Core.Path.{_≡_, refl}
+-- `lines::main` is safe and ends. The loop's invariant: what is lent has its length, and as much of a line as is kept tells its answer. The
+-- measure is the number of turns that are left. Assumes nothing.
+use mathlib.Core.Path.{_≡_, refl, subst}
 use Prim.Native.Nat.{ℕ, _<_, _-_}
 use native.Mathlib.Omega.{arith}
 use borrow.Author.Needs.{needs}
 use lib.ListN.{length}
+use Rattle.answers.specs.Text.{TellsLine}
 use Rattle.blocks.proofs.Stepping.{step-fits}
 use Rattle.lines.proofs.main.Statement.{statement}
 use Rattle.lines.proofs.main.Tie as tie
 
 abbrev Inv-loop : tie.InvT-loop
-Inv-loop block₀ line₀ out₀ input₀ q₀ turns₀ block line out input q turns = (65536 ≡ length block) × (831 ≡ length line) × (4096 ≡ length out)
+Inv-loop block₀ line₀ out₀ input₀ q₀ turns₀ block line out input q turns = (65536 ≡ length block) × (831 ≡ length line) × (4096 ≡ length out) × TellsLine (length line)
 
 abbrev μ-loop : tie.MeasureT-loop
 μ-loop block₀ line₀ out₀ input₀ q₀ turns₀ block line out input q turns = turns
@@ -18,14 +19,21 @@ abbrev μ-loop : tie.MeasureT-loop
 fewer : (n : ℕ) → 0 < n → n - 1 < n
 fewer n h = omega arith
 
+-- a line of the same length tells the same
+tells-as : {m n : ℕ} → TellsLine m → m ≡ n → TellsLine n
+tells-as t e = subst TellsLine e t
+
 large-buffer-requires : tie.Need-large-buffer-requires Inv-loop μ-loop
 large-buffer-requires c κs = search needs
+
+line-buffer-requires : tie.Need-line-buffer-requires Inv-loop μ-loop
+line-buffer-requires c κs = search needs
 
 start-requires : tie.Need-start-requires Inv-loop μ-loop
 start-requires c κs = search needs
 
 loop-holds : tie.Need-loop-holds Inv-loop μ-loop
-loop-holds c = (c .before .large-buffer .ensures, refl, refl)
+loop-holds c = (c .before .before .large-buffer .ensures, omega arith, refl, c .before .line-buffer .ensures)
 
 goes-on-requires : tie.Need-goes-on-requires Inv-loop μ-loop
 goes-on-requires c κs = search needs
@@ -46,16 +54,16 @@ slice-aggregate-answered-2 : tie.Need-slice-aggregate-answered-2 Inv-loop μ-loo
 slice-aggregate-answered-2 c = c .before .before .before .before .before .before .before .before .before .loop .inv .2
 
 answered-requires : tie.Need-answered-requires Inv-loop μ-loop
-answered-requires c κs = step-fits (c .before .before .before .before .next .ensures)
+answered-requires c κs = (tells-as (c .before .before .before .before .before .before .before .before .before .loop .inv .3) (omega (arith, c .before .before .before .before .before .before .before .before .before .loop .inv .1)), step-fits (c .before .before .before .before .before .before .before .before .goes-on .ensures (c .before .before .before .before .before .before .before .if1 .taken) .0) (c .before .before .before .before .next .ensures))
 
 sub-turns : tie.Need-sub-turns Inv-loop μ-loop
-sub-turns c = c .before .before .before .before .before .before .before .before .before .before .goes-on .ensures (c .before .before .before .before .before .before .before .before .before .if1 .taken)
+sub-turns c = c .before .before .before .before .before .before .before .before .before .before .goes-on .ensures (c .before .before .before .before .before .before .before .before .before .if1 .taken) .1
 
 loop-less : tie.Need-loop-less Inv-loop μ-loop
-loop-less c = fewer _ (c .before .before .before .before .before .before .before .before .before .before .goes-on .ensures (c .before .before .before .before .before .before .before .before .before .if1 .taken))
+loop-less c = fewer _ (c .before .before .before .before .before .before .before .before .before .before .goes-on .ensures (c .before .before .before .before .before .before .before .before .before .if1 .taken) .1)
 
 loop-again : tie.Need-loop-again Inv-loop μ-loop
-loop-again c = (omega (arith, c .before .before .before .before .before .before .before .before .before .before .before .loop .inv .0), omega (arith, c .before .before .before .before .before .before .before .before .before .before .before .loop .inv .1), omega (arith, c .before .before .before .before .before .before .before .before .before .before .before .loop .inv .2))
+loop-again c = (omega (arith, c .before .before .before .before .before .before .before .before .before .before .before .loop .inv .0), omega (arith, c .before .before .before .before .before .before .before .before .before .before .before .loop .inv .1), omega (arith, c .before .before .before .before .before .before .before .before .before .before .before .loop .inv .2), tells-as (c .before .before .before .before .before .before .before .before .before .before .before .loop .inv .3) (omega (arith, c .before .before .before .before .before .before .before .before .before .before .before .loop .inv .1)))
 
 slice-aggregate-flush : tie.Need-slice-aggregate-flush Inv-loop μ-loop
 slice-aggregate-flush c = c .before .before .before .loop .inv .2
@@ -76,6 +84,7 @@ main-spec =
     Inv-loop
     μ-loop
     large-buffer-requires
+    line-buffer-requires
     start-requires
     loop-holds
     goes-on-requires

@@ -49,13 +49,13 @@ slice-aggregate-answered-2 : tie.Need-slice-aggregate-answered-2 Inv-loop μ-loo
 slice-aggregate-answered-2 c = c .before .before .before .before .before .before .before .before .before .loop .inv .2
 
 answered-requires : tie.Need-answered-requires Inv-loop μ-loop
-answered-requires c κs = step-fits (c .before .before .before .before .next .ensures)
+answered-requires c κs = step-fits (c .before .before .before .before .before .before .before .before .goes-on .ensures (c .before .before .before .before .before .before .before .if1 .taken) .0) (c .before .before .before .before .next .ensures)
 
 sub-turns : tie.Need-sub-turns Inv-loop μ-loop
-sub-turns c = c .before .before .before .before .before .before .before .before .before .before .goes-on .ensures (c .before .before .before .before .before .before .before .before .before .if1 .taken)
+sub-turns c = c .before .before .before .before .before .before .before .before .before .before .goes-on .ensures (c .before .before .before .before .before .before .before .before .before .if1 .taken) .1
 
 loop-less : tie.Need-loop-less Inv-loop μ-loop
-loop-less c = fewer _ (c .before .before .before .before .before .before .before .before .before .before .goes-on .ensures (c .before .before .before .before .before .before .before .before .before .if1 .taken))
+loop-less c = fewer _ (c .before .before .before .before .before .before .before .before .before .before .goes-on .ensures (c .before .before .before .before .before .before .before .before .before .if1 .taken) .1)
 
 loop-again : tie.Need-loop-again Inv-loop μ-loop
 loop-again c = (omega (arith, c .before .before .before .before .before .before .before .before .before .before .before .loop .inv .0), omega (arith, c .before .before .before .before .before .before .before .before .before .before .before .loop .inv .1), omega (arith, c .before .before .before .before .before .before .before .before .before .before .before .loop .inv .2))
