@@ -1,4 +1,3 @@
 -- What the code stands on, and that its promises determine it.
 pub mod Twice
-pub mod Forms
 pub mod Once

@@ -1,5 +1,5 @@
--- The promises of `rewritten`, `reread`, `renormalised` and `says_same` are each met by one answer and one final contents of each of the
--- two buffers alone, for any terms. Assumes nothing.
+-- The promises of `rewritten` and `reread` are each met by one answer and one final contents of each of the two buffers alone, for any
+-- terms. Assumes nothing.
 use mathlib.Core.Path.{_≡_, sym, ap₂, _∙_}
 use mathlib.Core.List.{List}
 use Prim.Native.Nat.{ℕ}
@@ -7,19 +7,14 @@ use Rattle.bits.proofs.Once.{Once}
 use Rattle.format.specs.Rules.{Terms}
 use Rattle.format.specs.declared.Answer.{Answer}
 use Rattle.again.specs.Again.{Rewritten, Reread}
-use Rattle.again.specs.Normals.{Renormalised, SaysSame}
-use Rattle.again.specs.declared.normals.Alike.{Alike}
 
 -- the answer and both final contents together
-abbrev With : Type 0 → Type 0
-With A = A × List ℕ × List ℕ
-
 abbrev Outcome : Type 0
-Outcome = With Answer
+Outcome = Answer × List ℕ × List ℕ
 
-same-outcome : {A : Type 0} (a b : With A) → a .0 ≡ b .0 → a .1 ≡ b .1 → a .2 ≡ b .2 → a ≡ b
-same-outcome {A} a b p q r =
-    ap₂ (λ (x : A) (y : List ℕ × List ℕ). (x, y .0, y .1)) p (ap₂ (λ (u v : List ℕ). (u, v)) q r)
+same-outcome : (a b : Outcome) → a .0 ≡ b .0 → a .1 ≡ b .1 → a .2 ≡ b .2 → a ≡ b
+same-outcome a b p q r =
+    ap₂ (λ (x : Answer) (y : List ℕ × List ℕ). (x, y .0, y .1)) p (ap₂ (λ (u v : List ℕ). (u, v)) q r)
 
 pub rewritten-once : (p : Terms) (s : List ℕ) (n : ℕ) (run out : List ℕ)
     → Once (λ (r : Outcome). Rewritten p s n run out (r .0) (r .1) (r .2))
@@ -29,13 +24,3 @@ rewritten-once p s n run out a b h g =
 pub reread-once : (p : Terms) (vs out run : List ℕ) → Once (λ (r : Outcome). Reread p vs out run (r .0) (r .1) (r .2))
 reread-once p vs out run a b h g =
     same-outcome a b (h .answers ∙ sym (g .answers)) (h .telegram ∙ sym (g .telegram)) (h .values ∙ sym (g .values))
-
-pub renormalised-once : (p : Terms) (s : List ℕ) (n : ℕ) (x y : List ℕ)
-    → Once (λ (r : Outcome). Renormalised p s n x y (r .0) (r .1) (r .2))
-renormalised-once p s n x y a b h g =
-    same-outcome a b (h .answers ∙ sym (g .answers)) (h .once ∙ sym (g .once)) (h .twice ∙ sym (g .twice))
-
-pub says-same-once : (p : Terms) (s : List ℕ) (n : ℕ) (t : List ℕ) (m : ℕ) (x y : List ℕ)
-    → Once (λ (r : With Alike). SaysSame p s n t m x y (r .0) (r .1) (r .2))
-says-same-once p s n t m x y a b h g =
-    same-outcome a b (h .answers ∙ sym (g .answers)) (h .first ∙ sym (g .first)) (h .second ∙ sym (g .second))

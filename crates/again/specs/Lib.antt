@@ -1,3 +1,2 @@
--- What reading and writing one after the other promise, and what normalising twice does.
+-- What reading and writing one after the other promise.
 pub mod Again
-pub mod Normals

@@ -4,8 +4,6 @@ ghost use Rattle.format.specs.Rules.{paper};
 ghost use Rattle.again.specs.Again.{Rewritten, Reread};
 use format::Answer;
 
-pub mod normals;
-
 // Reads the telegram s of n bits into run, and writes what was read into out: n, and s again. The reader's refusal leaves both as they
 // were, and the writer, which refuses only where out is too short, leaves out as it was.
 pub fn rewritten(s: &[u8], n: usize, run: &mut [u64], out: &mut [u8]) -> Answer

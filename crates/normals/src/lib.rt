@@ -1,7 +1,7 @@
 // Demand 3, by the promise of `telegram::normalise` alone: normalising again changes nothing, and two telegrams say the same exactly when
 // their normal forms have the same bits.
 ghost use Rattle.format.specs.Rules.{paper};
-ghost use Rattle.again.specs.Normals.{Renormalised, SaysSame};
+ghost use Rattle.normals.specs.Normals.{Renormalised, SaysSame};
 use format::Answer;
 use format::Refusal;
 

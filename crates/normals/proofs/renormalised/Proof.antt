@@ -1,12 +1,12 @@
--- `again::normals::renormalised` meets its contract: the normal form that was written is normalised to itself. Assumes nothing.
+-- `normals::renormalised` meets its contract: the normal form that was written is normalised to itself. Assumes nothing.
 use mathlib.Core.Path.{sym}
 use borrow.Author.Needs.{needs}
 use denote.Ref.{now}
 use lib.Seq.{length-take-le}
 use Rattle.format.specs.Rules.{paper}
-use Rattle.again.proofs.Forms.{form-refused, formed, lent-form, renormalises}
-use Rattle.again.proofs.normals.renormalised.Statement.{statement}
-use Rattle.again.proofs.normals.renormalised.Tie as tie
+use Rattle.normals.proofs.Forms.{form-refused, formed, lent-form, renormalises}
+use Rattle.normals.proofs.renormalised.Statement.{statement}
+use Rattle.normals.proofs.renormalised.Tie as tie
 
 normalise-requires : tie.Need-normalise-requires
 normalise-requires c κs = search needs

@@ -1,13 +1,13 @@
--- `again::normals::says_same` meets its contract: normal forms of as many bits have the same bits just where they have the same bytes.
+-- `normals::says_same` meets its contract: normal forms of as many bits have the same bits just where they have the same bytes.
 -- Assumes nothing.
 use mathlib.Core.Path.{sym}
 use borrow.Author.Needs.{needs}
 use denote.Ref.{now}
 use lib.Seq.{length-take-le}
 use Rattle.format.specs.Rules.{paper}
-use Rattle.again.proofs.Forms.{lent-form, first-refused, second-refused, other-size, found-same, found-other, unlike}
-use Rattle.again.proofs.normals.says_same.Statement.{statement}
-use Rattle.again.proofs.normals.says_same.Tie as tie
+use Rattle.normals.proofs.Forms.{lent-form, first-refused, second-refused, other-size, found-same, found-other, unlike}
+use Rattle.normals.proofs.says_same.Statement.{statement}
+use Rattle.normals.proofs.says_same.Tie as tie
 
 normalise-requires : tie.Need-normalise-requires
 normalise-requires c κs = search needs

@@ -27,10 +27,9 @@ use Rattle.states.specs.Writer.{sizeOf, bytesOver}
 use Rattle.states.specs.Normaliser.{normalOf, normaliseInto, Normalise}
 use Rattle.states.proofs.Answers.{check-judges}
 use Rattle.states.proofs.Checking.{was-accepted, was-refused}
-use Rattle.again.specs.Again.{againOf}
-use Rattle.again.specs.Normals.{againIn, Renormalised, same, alike, SaysSame}
-use Rattle.again.specs.declared.normals.Alike.{Alike}
-use Rattle.again.specs.declared.normals.Alike.the-variants.{Same, Other, First, Second}
+use Rattle.normals.specs.Normals.{againOf, againIn, Renormalised, same, alike, SaysSame}
+use Rattle.normals.specs.declared.Alike.{Alike}
+use Rattle.normals.specs.declared.Alike.the-variants.{Same, Other, First, Second}
 use Rattle.states.proofs.Accepting.{sent, bytes-long, sound}
 use Rattle.states.proofs.Pointing.{room-accepted, normal-given}
 
@@ -141,7 +140,7 @@ module _ (p : Terms) {es : List Entry} (t : Telegram p es) (n : ℕ) (e : n ≡ 
   again-by true = (rw (again, e), rw again)
   again-by false = (refl, refl)
 
-  then-again : (sizeOf (normaliseInto p (bytesOf (bits (normal es))) n (length y)) ≡ againOf (accepted (normal es)) 104 (length y) n)
+  then-again : (sizeOf (normaliseInto p (bytesOf (bits (normal es))) n (length y)) ≡ againOf (accepted (normal es)) (length y) n)
       × (bytesOver (normaliseInto p (bytesOf (bits (normal es))) n (length y)) y ≡ againIn (accepted (normal es)) y)
   unfolding normaliseInto
   then-again = again-by (leb 104 (length y))

@@ -1,0 +1,2 @@
+-- What normalising twice promises, and comparing two normal forms.
+pub mod Normals
