@@ -1,8 +1,5 @@
 -- What the code of this crate stands on, and what its promises say.
 pub mod Marks
 pub mod Figures
-pub mod Hexes
-pub mod Forms
 pub mod Written
 pub mod Splits
-pub mod Answers

@@ -1,4 +1,3 @@
 -- What a reader of this crate's promises must believe, in reading order.
 pub mod Words
-pub mod Telegrams
 pub mod Examples

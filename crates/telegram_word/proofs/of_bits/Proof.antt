@@ -1,11 +1,11 @@
--- `words::of_bits` meets its contract: one law for each way out. Assumes nothing.
+-- `telegram_word::of_bits` meets its contract: one law for each way out. Assumes nothing.
 use native.Mathlib.Omega.{arith}
 use denote.Ref.{now}
-use Rattle.words.specs.Telegrams.{bitsForm}
-use Rattle.words.proofs.Forms.{lends-none, bits-empty, bits-long, bits-packed, bits-other, bits-roomless}
+use Rattle.telegram_word.specs.Telegrams.{bitsForm}
+use Rattle.telegram_word.proofs.Forms.{lends-none, bits-empty, bits-long, bits-packed, bits-other, bits-roomless}
 use borrow.Author.Needs.{needs}
-use Rattle.words.proofs.of_bits.Statement.{statement}
-use Rattle.words.proofs.of_bits.Tie as tie
+use Rattle.telegram_word.proofs.of_bits.Statement.{statement}
+use Rattle.telegram_word.proofs.of_bits.Tie as tie
 
 returns : tie.Need-returns
 returns c =

@@ -1,4 +1,4 @@
--- `words::in_pairs` meets its contract. The loop's invariant: the characters are hexadecimal if those from i on are. The measure is how many
+-- `telegram_word::in_pairs` meets its contract. The loop's invariant: the characters are hexadecimal if those from i on are. The measure is how many
 -- are left. Assumes nothing.
 use mathlib.Core.Path.{_≡_, sym, _∙_}
 use Prim.Native.Nat.{_-_, _≤_}
@@ -7,10 +7,10 @@ use borrow.Author.Needs.{needs}
 use denote.Ref.{now}
 use lib.ListN.{take, drop}
 use lib.Seq.{length-take-le}
-use Rattle.words.specs.Telegrams.{hexed, inPairs}
-use Rattle.words.proofs.Hexes.{hexed-end, hexed-on, hexed-off, pairs-long, pairs-odd, pairs-even}
-use Rattle.words.proofs.in_pairs.Statement.{statement}
-use Rattle.words.proofs.in_pairs.Tie as tie
+use Rattle.telegram_word.specs.Telegrams.{hexed, inPairs}
+use Rattle.telegram_word.proofs.Hexes.{hexed-end, hexed-on, hexed-off, pairs-long, pairs-odd, pairs-even}
+use Rattle.telegram_word.proofs.in_pairs.Statement.{statement}
+use Rattle.telegram_word.proofs.in_pairs.Tie as tie
 
 abbrev Inv-loop : tie.InvT-loop
 Inv-loop text end i₀ i = (i ≤ end) × (inPairs (take end text) ≡ hexed (drop i (take end text)))

@@ -1,9 +1,9 @@
--- `words::digit` meets its contract: one law for each range of characters. Assumes nothing.
+-- `telegram_word::digit` meets its contract: one law for each range of characters. Assumes nothing.
 use mathlib.Core.Path.{sym}
 use native.Mathlib.Omega.{arith}
-use Rattle.words.proofs.Hexes.{hex-digit, hex-capital, hex-small, hex-front, hex-between, hex-middle, hex-behind}
-use Rattle.words.proofs.digit.Statement.{statement}
-use Rattle.words.proofs.digit.Tie as tie
+use Rattle.telegram_word.proofs.Hexes.{hex-digit, hex-capital, hex-small, hex-front, hex-between, hex-middle, hex-behind}
+use Rattle.telegram_word.proofs.digit.Statement.{statement}
+use Rattle.telegram_word.proofs.digit.Tie as tie
 
 add-result : tie.Need-add-result
 add-result c = omega arith

@@ -1,12 +1,12 @@
--- `words::of_hex` meets its contract: one law for each way out. Assumes nothing.
+-- `telegram_word::of_hex` meets its contract: one law for each way out. Assumes nothing.
 use mathlib.Core.Path.{sym, _∙_}
 use native.Mathlib.Omega.{arith}
 use borrow.Author.Tests.{not-true, not-false}
 use denote.Ref.{now}
-use Rattle.words.proofs.Forms.{hex-even, hex-no-pairs, hex-no-number, hex-roomless, hex-bytes}
+use Rattle.telegram_word.proofs.Forms.{hex-even, hex-no-pairs, hex-no-number, hex-roomless, hex-bytes}
 use borrow.Author.Needs.{needs}
-use Rattle.words.proofs.of_hex.Statement.{statement}
-use Rattle.words.proofs.of_hex.Tie as tie
+use Rattle.telegram_word.proofs.of_hex.Statement.{statement}
+use Rattle.telegram_word.proofs.of_hex.Tie as tie
 
 in-pairs-requires : tie.Need-in-pairs-requires
 in-pairs-requires c κs = search needs

@@ -15,14 +15,14 @@ use Rattle.bits.proofs.Bytes.{length-bytesOf}
 use Rattle.bits.proofs.Once.{Once}
 use Rattle.packing.specs.Packing.{binary, bitsIn}
 use Rattle.packing.proofs.Lines.{length-bitsIn}
 use Rattle.words.specs.Words.{upTo, numberIn}
-use Rattle.words.specs.Telegrams.{Telegram, telegram, bitsForm, inPairs, bytesIn, counted, hexForm, either, telegramIn, roomy, lentOf, lentOver, Lends}
+use Rattle.telegram_word.specs.Telegrams.{Telegram, telegram, bitsForm, inPairs, bytesIn, counted, hexForm, either, telegramIn, roomy, lentOf, lentOver, Lends}
 use Rattle.words.specs.declared.Figure.{Figure}
 use Rattle.words.specs.declared.Figure.the-variants as figure
-use Rattle.words.specs.declared.Lent.{Lent}
-use Rattle.words.specs.declared.Lent.the-variants.{Bytes, Not, Room}
-use Rattle.words.proofs.Hexes.{pairs-told, length-bytesIn}
-use Rattle.words.proofs.Forms.{colon-no-bits, no-colon-no-hex}
+use Rattle.telegram_word.specs.declared.Lent.{Lent}
+use Rattle.telegram_word.specs.declared.Lent.the-variants.{Bytes, Not, Room}
+use Rattle.telegram_word.proofs.Hexes.{pairs-told, length-bytesIn}
+use Rattle.telegram_word.proofs.Forms.{colon-no-bits, no-colon-no-hex}
 
 -- ---- a word is not both bits and HEX:n
 

@@ -1,10 +1,10 @@
--- `words::telegram` meets its contract: with a colon a word is no bits, and without one it is no HEX:n. Assumes nothing.
+-- `telegram_word::telegram` meets its contract: with a colon a word is no bits, and without one it is no HEX:n. Assumes nothing.
 use native.Mathlib.Omega.{arith}
 use denote.Ref.{now}
-use Rattle.words.proofs.Forms.{lends-hex, lends-bits}
+use Rattle.telegram_word.proofs.Forms.{lends-hex, lends-bits}
 use borrow.Author.Needs.{needs}
-use Rattle.words.proofs.telegram.Statement.{statement}
-use Rattle.words.proofs.telegram.Tie as tie
+use Rattle.telegram_word.proofs.telegram.Statement.{statement}
+use Rattle.telegram_word.proofs.telegram.Tie as tie
 
 until-requires : tie.Need-until-requires
 until-requires c κs = search needs

@@ -8,11 +8,11 @@ use lib.Dec.{eqb, leb, ltb}
 use lib.ListN.{length, take, drop}
 use Rattle.bits.specs.Bits.{bytesOf}
 use Rattle.packing.specs.Packing.{binary, bitsIn}
 use Rattle.words.specs.Words.{upTo, numberIn}
 use Rattle.words.specs.declared.Figure.{Figure}
 use Rattle.words.specs.declared.Figure.the-variants as figure
-use Rattle.words.specs.declared.Lent.{Lent}
-use Rattle.words.specs.declared.Lent.the-variants.{Bytes, Not, Room}
+use Rattle.telegram_word.specs.declared.Lent.{Lent}
+use Rattle.telegram_word.specs.declared.Lent.the-variants.{Bytes, Not, Room}
 
 -- what a telegram word says: bytes as they are lent, and a count of bits that need not fit them
 pub record Telegram : Type 0 where

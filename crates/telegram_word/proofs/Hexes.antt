@@ -9,7 +9,7 @@ use borrow.Author.Tests.{le-leb, lt-leb, lt-ltb, le-ltb, ltb-true, leb-true, eqb
 use lib.Dec.{leb, ltb, eqb}
 use lib.ListN.{length, take, drop, getD, set, drop-of-length-le}
 use lib.Seq.{drop-cons, length-take-le, getD-take, set-at, append-snoc}
-use Rattle.words.specs.Telegrams.{hexOf, hexed, inPairs, bytesIn}
+use Rattle.telegram_word.specs.Telegrams.{hexOf, hexed, inPairs, bytesIn}
 
 -- ---- the ways through `digit`
 

@@ -18,14 +18,14 @@ use Rattle.packing.specs.Packing as packing
 use Rattle.packing.specs.declared.Packed.{Packed}
 use Rattle.packing.specs.declared.Packed.the-variants as packed
 use Rattle.packing.proofs.Lines.{length-bitsIn}
 use Rattle.words.specs.Words.{upTo, numberIn}
-use Rattle.words.specs.Telegrams.{Telegram, telegram, within, bitsForm, hexed, inPairs, bytesIn, counted, hexForm, either, telegramIn, Lends}
+use Rattle.telegram_word.specs.Telegrams.{Telegram, telegram, within, bitsForm, hexed, inPairs, bytesIn, counted, hexForm, either, telegramIn, Lends}
 use Rattle.words.specs.declared.Figure.{Figure}
 use Rattle.words.specs.declared.Figure.the-variants as figure
-use Rattle.words.specs.declared.Lent.{Lent}
-use Rattle.words.specs.declared.Lent.the-variants.{Bytes, Not, Room}
+use Rattle.telegram_word.specs.declared.Lent.{Lent}
+use Rattle.telegram_word.specs.declared.Lent.the-variants.{Bytes, Not, Room}
 use Rattle.words.proofs.Figures.{number-empty}
-use Rattle.words.proofs.Hexes.{no-and, pairs-told, length-bytesIn}
+use Rattle.telegram_word.proofs.Hexes.{no-and, pairs-told, length-bytesIn}
 
 -- ---- what is lent, by what the word is
 

@@ -1,4 +1,4 @@
--- `words::fill` meets its contract. The loop's invariant: the first i bytes of the text stand in front, and behind them what was there. The
+-- `telegram_word::fill` meets its contract. The loop's invariant: the first i bytes of the text stand in front, and behind them what was there. The
 -- measure is how many bytes are left. Assumes nothing.
 use mathlib.Core.Path.{_≡_, refl, ap, _∙_}
 use mathlib.Core.List.{_++_}
@@ -7,10 +7,10 @@ use native.Mathlib.Omega.{arith}
 use borrow.Author.Needs.{needs}
 use denote.Ref.{now}
 use lib.ListN.{length, take, drop, length-set}
-use Rattle.words.specs.Telegrams.{bytesIn}
-use Rattle.words.proofs.Hexes.{hexed-small, store-again}
-use Rattle.words.proofs.fill.Statement.{statement}
-use Rattle.words.proofs.fill.Tie as tie
+use Rattle.telegram_word.specs.Telegrams.{bytesIn}
+use Rattle.telegram_word.proofs.Hexes.{hexed-small, store-again}
+use Rattle.telegram_word.proofs.fill.Statement.{statement}
+use Rattle.telegram_word.proofs.fill.Tie as tie
 
 abbrev Inv-loop : tie.InvT-loop
 Inv-loop text k out₀ i₀ out i = (i ≤ k) × (length out ≡ length out₀) × (out ≡ bytesIn (take (2 * i) text) ++ drop i out₀)
