@@ -6,7 +6,7 @@ use Rattle.format.specs.declared.Answer.the-variants.{Accepted, Refused}
 use Rattle.states.specs.Reader.{checked}
 use Rattle.packing.specs.Packing.{binary}
 use Rattle.pieces.specs.Numbers.{digitsOf}
-use Rattle.queue.specs.Texts.{refusalText}
+use Rattle.queue_text.specs.Texts.{refusalText}
 use Rattle.answers.specs.Lines.{answerTo, noTelegram}
 use Rattle.answers.specs.Text.{textOf}
 

@@ -6,7 +6,7 @@ use lib.ListN.{length, take}
 use Rattle.format.specs.declared.Answer.{Answer}
 use Rattle.format.specs.declared.Answer.the-variants.{Accepted, Refused}
 use Rattle.pieces.specs.Numbers.{decimal}
-use Rattle.queue.specs.Texts.{space, newline, okWord, refusalText}
+use Rattle.queue_text.specs.Texts.{space, newline, okWord, refusalText}
 use Rattle.answers.specs.Lines.{answerTo}
 
 abbrev pub accepted : ℕ → ℕ → List ℕ

@@ -57,7 +57,7 @@ fn tell(out: &mut [u8], q: Queue, n: usize, answer: Answer) -> Queue
 {
     match answer {
         Answer::Accepted(count) => accepted(out, q, n as u64, count as u64),
-        Answer::Refused(r) => queue::refused(out, q, r),
+        Answer::Refused(r) => queue_text::refused(out, q, r),
     }
 }
 
@@ -65,8 +65,8 @@ fn accepted(out: &mut [u8], q: Queue, n: u64, count: u64) -> Queue
     ensures { λ r. ⌜ Joins (accepted n count) q (now (out .entry)) r (now (out .exit)) ⌝ }
 {
     let a = queue::say(out, q, b"ok ");
-    let b = queue::number(out, a, n);
+    let b = queue_text::number(out, a, n);
     let c = queue::put(out, b, b' ');
-    let d = queue::number(out, c, count);
+    let d = queue_text::number(out, c, count);
     queue::put(out, d, b'\n')
 }

@@ -1,5 +1,4 @@
-// What the program `sheets` prints for an input, put into a text: here for a line, and by printed_in for a sheet. Every input and every room has
-// its answer.
+// What the program `sheets` prints for a line, put into a text; for a sheet it is `printed_in`. Every input and every room has its answer.
 ghost use mathlib.Core.Path.{_≡_};
 ghost use Prim.Native.Nat.{_≤_};
 ghost use lib.ListN.{length};
@@ -13,7 +12,6 @@ use format::Refusal;
 use line_text::line_length;
 use line_text::refuse;
 use packing::Packed;
-pub use printed_in::from_sheet;
 use sheet::Reply;
 
 // No telegram has more than 830 bits. An input of 832 bytes or more has at least 831 characters before a newline at its end and is

@@ -9,9 +9,7 @@ use native.Mathlib.Omega.{arith}
 use borrow.Author.Tests.{le-leb, lt-ltb}
 use lib.ListN.{length, set, length-set}
 use lib.Seq.{sets, sets-eq}
-use Rattle.pieces.specs.Numbers.{decimal}
 use Rattle.pieces.specs.Pieces.{over, past, Appended}
-use Rattle.pieces.proofs.Decimals.{length-decimal}
 use Rattle.queue.specs.Waiting.{waiting, queued, overflows, Joins}
 use Rattle.queue.specs.declared.Queue.{Queue}
 use Rattle.queue.proofs.Joining.{put-behind}
@@ -46,7 +44,3 @@ module _ (q : Queue) (before piece after : List ℕ) (end : ℕ) (h : q .waiting
         failed = false;
         loses = rw (overflows-not piece before (q .waiting) h) (sym (or-false (q .lost)));
       }
-
--- a number has no more than 20 digits
-pub digits-fit : (v at n : ℕ) → at + 20 ≤ n → at + length (decimal v) ≤ n
-digits-fit v at n h = omega (arith, length-decimal 20 v)

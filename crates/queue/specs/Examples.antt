@@ -3,10 +3,7 @@ use mathlib.Core.Path.{_≡_, refl}
 use mathlib.Core.Bool.{Bool, true, false}
 use mathlib.Core.List.{List, [], _∷_}
 use Prim.Native.Nat.{ℕ}
-use Rattle.format.specs.declared.Kind.the-variants.{Trailing}
-use Rattle.pieces.specs.Numbers.{digitsOf}
 use Rattle.queue.specs.Waiting.{waiting, put, queued, overflows, lostBy}
-use Rattle.queue.specs.Texts.{refusalText}
 
 -- `abc` and `de` behind one character that waits, in an array of four bytes: the fifth finds it full. Of an array of no bytes, and of a queue
 -- that says more than its array has
@@ -27,9 +24,3 @@ losses : lostOf (97 ∷ 98 ∷ 99 ∷ []) 1 (120 ∷ 0 ∷ 0 ∷ 0 ∷ []) true 
     ≡ false ∷ true ∷ false ∷ true ∷ false ∷ false ∷ true ∷ []
 unfolding overflows put
 losses = refl
-
--- `refused 11 58`
-refusal : refusalText (record { kind = Trailing; place = 58 })
-    ≡ 114 ∷ 101 ∷ 102 ∷ 117 ∷ 115 ∷ 101 ∷ 100 ∷ 32 ∷ 49 ∷ 49 ∷ 32 ∷ 53 ∷ 56 ∷ 10 ∷ []
-unfolding refusalText digitsOf
-refusal = refl

@@ -1,4 +1,3 @@
--- What waits, and the texts that are put, in reading order.
+-- What waits, and a text put behind it, in reading order.
 pub mod Waiting
-pub mod Texts
 pub mod Examples

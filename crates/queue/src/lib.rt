@@ -1,16 +1,11 @@
-// Answers as text, which waits in a lent array and is written to standard output when that is full. Every function answers every
-// queue and every array.
+// Text that waits in a lent array and is written to standard output when that is full. Every function answers every queue and every
+// array.
 ghost use mathlib.Core.Path.{_≡_};
 ghost use mathlib.Core.Bool.{true};
 ghost use mathlib.Core.List.{[], _∷_};
-ghost use Prim.Native.Nat.{_+_, _*_, _^_, _<_, _≤_, min};
-ghost use lib.ListN.{length, take, getD};
-ghost use Rattle.bits.specs.Bits.{bitsOf};
-ghost use Rattle.pieces.specs.Numbers.{decimal};
+ghost use Prim.Native.Nat.{_+_, _≤_, min};
+ghost use lib.ListN.{length};
 ghost use Rattle.queue.specs.Waiting.{Joins, Flushed};
-ghost use Rattle.packing.specs.Packing.{characters};
-ghost use Rattle.queue.specs.Texts.{refusalText};
-use format::Refusal;
 use libc::STDOUT_FILENO;
 
 // How many characters wait at the front of the array, and whether some could not be written.
@@ -107,49 +102,4 @@ fn singly(out: &mut [u8], q: Queue, piece: &[u8]) -> Queue
         i += 1;
     }
     r
-}
-
-// Puts the decimal digits of a number.
-pub fn number(out: &mut [u8], q: Queue, v: u64) -> Queue
-    ensures { λ r. ⌜ Joins (decimal v) q (now (out .entry)) r (now (out .exit)) ⌝ }
-{
-    let at = q.waiting;
-    if roomy(out, at, 20) {
-        let end = spell::append_decimal(out, at, v);
-        return Queue {
-            waiting: end,
-            lost: q.lost,
-        };
-    }
-    let mut d = [0u8; 20];
-    let k = spell::append_decimal(&mut d, 0, v);
-    singly(out, q, &d[..k])
-}
-
-// Puts the first n bits of s as characters 0 and 1, or all of them where s has fewer.
-pub fn characters(out: &mut [u8], q: Queue, s: &[u8], n: usize) -> Queue
-    ensures { λ r. ⌜ Joins (characters (take n (bitsOf (now (s .entry))))) q (now (out .entry)) r (now (out .exit)) ⌝ }
-{
-    let mut r = q;
-    let mut at = 0;
-    while at < n {
-        if s.len() <= at / 8 {
-            return r;
-        }
-        r = put(out, r, packing::character(s, at + 1, at));
-        at += 1;
-    }
-    r
-}
-
-// Puts a refusal: `refused`, its number and its place, and the end of the line.
-pub fn refused(out: &mut [u8], q: Queue, refusal: Refusal) -> Queue
-    ensures { λ r. ⌜ Joins (refusalText refusal) q (now (out .entry)) r (now (out .exit)) ⌝ }
-{
-    let kind = refusal.kind;
-    let a = say(out, q, b"refused ");
-    let b = number(out, a, table::number(kind));
-    let c = put(out, b, b' ');
-    let d = number(out, c, refusal.place as u64);
-    put(out, d, b'\n')
 }

@@ -6,7 +6,7 @@ use native.Mathlib.Numerals.{add-one}
 use lib.ListN.{length, take, getD}
 use lib.Seq.{take-suc, take-all}
 use Rattle.pieces.specs.Numbers.{decimal}
-use Rattle.queue.specs.Texts.{space}
+use Rattle.queue_text.specs.Texts.{space}
 use Rattle.queue.specs.Waiting.{Joins}
 use Rattle.queue.specs.declared.Queue.{Queue}
 use Rattle.queue.proofs.Joining.{joins-nothing, joins-then, joins-as}

@@ -15,7 +15,7 @@ use Rattle.format.specs.declared.Answer.{Answer}
 use Rattle.format.specs.declared.Answer.the-variants.{Accepted, Refused}
 use Rattle.format.specs.declared.Refusal.{Refusal}
 use Rattle.laws.proofs.Demand2.{length-bits, below-bits}
-use Rattle.queue.specs.Texts.{refusalText}
+use Rattle.queue_text.specs.Texts.{refusalText}
 use Rattle.states.specs.Normaliser.{normalOf, normaliseInto, Normalise}
 use Rattle.states.specs.Reader.{checked, readInto, answerOf, valuesOver, Read}
 use Rattle.states.specs.Writer.{writeInto, sizeOf, bytesOver, Write}

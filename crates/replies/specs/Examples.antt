@@ -5,7 +5,7 @@ use mathlib.Core.List.{[], _∷_}
 use Rattle.format.specs.declared.Answer.the-variants.{Accepted}
 use Rattle.packing.specs.Packing.{binary}
 use Rattle.pieces.specs.Numbers.{digitsOf}
-use Rattle.queue.specs.Texts.{refusalText}
+use Rattle.queue_text.specs.Texts.{refusalText}
 use Rattle.replies.specs.Replies.{noQuestion, spaced, listed, readText, sentText, bitsText}
 use Rattle.states.specs.Reader.{checked}
 

@@ -12,7 +12,7 @@ use Rattle.format.specs.declared.Answer.{Answer}
 use Rattle.format.specs.declared.Answer.the-variants.{Accepted, Refused}
 use Rattle.packing.specs.Packing.{binary, bitsIn, characters}
 use Rattle.pieces.specs.Numbers.{decimal}
-use Rattle.queue.specs.Texts.{space, newline, okWord, refusalText}
+use Rattle.queue_text.specs.Texts.{space, newline, okWord, refusalText}
 use Rattle.states.specs.Normaliser.{normalOf}
 use Rattle.states.specs.Reader.{checked}
 

@@ -49,7 +49,7 @@ fn read(s: &[u8], n: usize, out: &mut [u8], q: Queue) -> Queue
     let mut run = [0u64; 830];
     match telegram::read(s, n, &mut run) {
         Answer::Accepted(count) => listed(&run[..count], out, q),
-        Answer::Refused(r) => queue::refused(out, q, r),
+        Answer::Refused(r) => queue_text::refused(out, q, r),
     }
 }
 
@@ -57,7 +57,7 @@ fn listed(run: &[u64], out: &mut [u8], q: Queue) -> Queue
     ensures { λ r. ⌜ Joins (listed (now (run .entry))) q (now (out .entry)) r (now (out .exit)) ⌝ }
 {
     let a = queue::say(out, q, b"ok ");
-    let b = queue::number(out, a, run.len() as u64);
+    let b = queue_text::number(out, a, run.len() as u64);
     let c = numbers(run, out, b);
     queue::put(out, c, b'\n')
 }
@@ -70,7 +70,7 @@ fn numbers(run: &[u64], out: &mut [u8], q: Queue) -> Queue
     let mut i = 0;
     while i < run.len() {
         let s = queue::put(out, r, b' ');
-        r = queue::number(out, s, run[i]);
+        r = queue_text::number(out, s, run[i]);
         i += 1;
     }
     r
@@ -91,9 +91,9 @@ fn sent(t: &[u8], answer: Answer, out: &mut [u8], q: Queue) -> Queue
     match answer {
         Answer::Accepted(n) => {
             let a = queue::say(out, q, b"ok ");
-            let b = queue::characters(out, a, t, n);
+            let b = queue_text::characters(out, a, t, n);
             queue::put(out, b, b'\n')
         }
-        Answer::Refused(r) => queue::refused(out, q, r),
+        Answer::Refused(r) => queue_text::refused(out, q, r),
     }
 }

@@ -20,5 +20,5 @@ pub(crate) fn from_start_of_sheet(read: &[u8], n: usize, out: &mut [u8]) -> usiz
     requires { ⌜ TellsSheet (length (now read)) × (n ≤ length (now read)) × (1024 ≤ length (now out)) ⌝ }
     ensures { λ r. ⌜ ((input : List ℕ) → Holds (now (read .entry)) n input → Grown (now (out .entry)) (inText input) r (now (out .exit))) ⌝ }
 {
-    printed::from_sheet(&read[..n], out)
+    printed_in::from_sheet(&read[..n], out)
 }

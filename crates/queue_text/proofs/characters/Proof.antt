@@ -1,4 +1,4 @@
--- `queue::characters` meets its contract. The loop's invariant: the first bits up to at have joined as characters. The measure is how many are left.
+-- `queue_text::characters` meets its contract. The loop's invariant: the first bits up to at have joined as characters. The measure is how many are left.
 -- Assumes nothing.
 use mathlib.Core.Path.{_∙_}
 use Prim.Native.Nat.{_+_, _≤_, _-_}
@@ -9,11 +9,11 @@ use borrow.Author.Needs.{needs}
 use Rattle.bits.specs.Bits.{bitsOf}
 use Rattle.packing.specs.Packing.{characters}
 use Rattle.packing.proofs.Characters.{character-there}
 use Rattle.queue.specs.Waiting.{Joins}
 use Rattle.queue.proofs.Joining.{joins-nothing, joins-length}
-use Rattle.queue.proofs.Bitwise.{characters-more, characters-few, characters-all}
-use Rattle.queue.proofs.characters.Statement.{statement}
-use Rattle.queue.proofs.characters.Tie as tie
+use Rattle.queue_text.proofs.Bitwise.{characters-more, characters-few, characters-all}
+use Rattle.queue_text.proofs.characters.Statement.{statement}
+use Rattle.queue_text.proofs.characters.Tie as tie
 
 abbrev Inv-loop : tie.InvT-loop
 Inv-loop out₀ s n r₀ at₀ out r at = (at ≤ n) × Joins (characters (take at (bitsOf s))) r₀ out₀ r out

@@ -1,12 +1,12 @@
--- `queue::refused` meets its contract: its pieces join one behind the other. Assumes nothing.
+-- `queue_text::refused` meets its contract: its pieces join one behind the other. Assumes nothing.
 use mathlib.Core.Path.{ap}
 use Rattle.pieces.specs.Numbers.{decimal}
-use Rattle.queue.specs.Texts.{refusalText}
+use Rattle.queue_text.specs.Texts.{refusalText}
 use Rattle.queue.proofs.Joining.{joins-then, joins-as}
 use borrow.Author.Needs.{needs}
-use Rattle.queue.proofs.refused.Statement.{statement}
-use Rattle.queue.proofs.refused.Tie as tie
-use Rattle.queue.proofs.number.Reads as number-reads′
+use Rattle.queue_text.proofs.refused.Statement.{statement}
+use Rattle.queue_text.proofs.refused.Tie as tie
+use Rattle.queue_text.proofs.number.Reads as number-reads′
 
 slice-aggregate-say : tie.Need-slice-aggregate-say
 slice-aggregate-say c = search needs
