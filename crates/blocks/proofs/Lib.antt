@@ -1,4 +1,3 @@
--- What the functions of this crate stand on: newlines, and steps from line to line.
-mod Newlines
+-- What the functions of this crate stand on: parts of a line, and steps from line to line.
 mod Parts
 pub mod Stepping

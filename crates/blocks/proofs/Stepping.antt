@@ -10,12 +10,11 @@ use native.Mathlib.Omega.{arith}
 use borrow.Author.Tests.{lt-ltb, le-ltb, eq-eqb, ne-eqb}
 use lib.ListN.{length, take, drop, length-take, length-drop, length-append, drop-of-length-le}
 use lib.Seq.{take-all, length-take-le}
-use Rattle.blocks.specs.Ends.{upToEnd, ends, EndsAt}
+use Rattle.blocks.specs.Ends.{upToEnd, ends}
 use Rattle.blocks.specs.Reading.{left, held, fitting, over, inHand, stop, takenOn, TakesOn, stopped, fresh, arrivedAt, arrivedLine, Arrives, Arrival, Steps, Held, Keeps}
 use Rattle.blocks.specs.declared.Filled.{Filled}
 use Rattle.blocks.specs.declared.Filled.the-variants.{Bytes, Failed}
 use Rattle.blocks.specs.declared.Input.{Input}
-use Rattle.blocks.proofs.Newlines.{ends-up-to}
 use Rattle.blocks.proofs.Parts.{take-least}
 
 -- ---- what is kept of the line in hand
@@ -53,7 +52,7 @@ made-same i {a} {a′} {b} {b′} {k} {k′} {w} {w′} p q r s =
     ∙ ap (λ (x : Bool). made i a′ b′ k′ x) s
 
 module _ (block line : List ℕ) (i : Input) (to from e h kept : ℕ) (line′ : List ℕ) (t : to ≡ min (i .to) (length block))
-    (f : from ≡ min (i .from) to) (x : EndsAt (take to block) from e) (g : Held line i h)
+    (f : from ≡ min (i .from) to) (x : e ≡ from + upToEnd (drop from (take to block))) (g : Held line i h)
     (k : Keeps h line (take (e - from) (drop from (take to block))) kept line′) where
   size : length (take to block) ≡ to
   size = length-take-le to block (omega arith)
@@ -62,7 +61,10 @@ module _ (block line : List ℕ) (i : Input) (to from e h kept : ℕ) (line′ :
   rest-is = least-drop from (i .from) to (take to block) size f ∙ ap (drop (i .from)) (least-take to (i .to) block t)
 
   up-to : upToEnd (left block i) ≡ e - from
-  up-to = ap upToEnd (sym rest-is) ∙ ends-up-to (take to block) from e x
+  up-to = ap upToEnd (sym rest-is) ∙ (omega (arith, x))
+
+  behind : from ≤ e
+  behind = omega (arith, x)
 
   left-size : length (left block i) ≡ to - from
   left-size = ap length (sym rest-is) ∙ length-drop from (take to block) ∙ ap (λ (n : ℕ). n - from) size
@@ -83,9 +85,9 @@ module _ (block line : List ℕ) (i : Input) (to from e h kept : ℕ) (line′ :
   pub takes-some : e < to → TakesOn block line i (made i (e + 1) to kept true) line′
   unfolding takenOn
   takes-some l =
-      let y : upToEnd (left block i) < length (left block i) = omega (arith, up-to, left-size, x .behind) in
+      let y : upToEnd (left block i) < length (left block i) = omega (arith, up-to, left-size, behind) in
       let w : ends (left block i) ≡ true = lt-ltb (upToEnd (left block i)) (length (left block i)) y in
-      let a : e + 1 ≡ i .from + upToEnd (left block i) + 1 = omega (arith, up-to, x .behind) in
+      let a : e + 1 ≡ i .from + upToEnd (left block i) + 1 = omega (arith, up-to, behind) in
       record {
         stands = made-same i (a ∙ sym (ap (λ (b : Bool). cond b (i .from + upToEnd (left block i) + 1) (stop block i)) w)) t count (sym w);
         text = text;

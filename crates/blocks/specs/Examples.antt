@@ -3,7 +3,7 @@ use mathlib.Core.Path.{_≡_, refl}
 use mathlib.Core.Bool.{true, false}
 use mathlib.Core.List.{List, [], _∷_}
 use Prim.Native.Nat.{ℕ}
-use Rattle.blocks.specs.Ends.{upToEnd}
+use Rattle.words.specs.Words.{upTo}
 use Rattle.blocks.specs.Reading.{over, inHand, takenOn}
 use Rattle.blocks.specs.declared.Input.{Input}
 
@@ -20,12 +20,12 @@ steps : takenOn block (0 ∷ 0 ∷ 0 ∷ []) (at 0 4 0) ∷ takenOn block (0 ∷
     ∷ record { from = 4; to = 4; kept = 1; whole = false; ended = false; failed = false }
     ∷ record { from = 3; to = 4; kept = 2; whole = true; ended = false; failed = false }
     ∷ []
-unfolding block takenOn inHand upToEnd
+unfolding block takenOn inHand upTo
 steps = refl
 
 -- two characters are kept of `xab`, and of `ab` behind a whole line
 lines : over (inHand block (120 ∷ 0 ∷ []) (at 0 4 1)) (120 ∷ 0 ∷ [])
     ∷ over (inHand block (120 ∷ 0 ∷ 5 ∷ []) (record { from = 0; to = 4; kept = 1; whole = true; ended = false; failed = false })) (120 ∷ 0 ∷ 5 ∷ []) ∷ []
     ≡ (120 ∷ 97 ∷ []) ∷ (97 ∷ 98 ∷ 5 ∷ []) ∷ []
-unfolding block inHand upToEnd
+unfolding block inHand upTo
 lines = refl

@@ -1,16 +1,15 @@
 // Lines out of blocks of standard input. A line may reach over any number of blocks; of each, as many characters are kept as are lent
 // for it. Every public function answers every input.
 ghost use mathlib.Core.Path.{_≡_};
-ghost use Prim.Native.Nat.{_≤_, min};
+ghost use Prim.Native.Nat.{_≤_};
 ghost use lib.ListN.{length};
 ghost use Rattle.blocks.specs.Reading.{nothing, stopped, Keeps, Held, TakesOn, Arrives, Steps};
 
-mod ends;
 mod reads;
 
-use crate::ends::line_end;
 use crate::reads::read;
 pub use reads::fill;
+use word64::lower;
 
 // How many bytes were read, or that a read failed.
 pub enum Filled {
@@ -60,7 +59,7 @@ pub fn next(block: &mut [u8], line: &mut [u8], input: Input) -> Input
 }
 
 // What a read brought, taken on up to its first newline.
-pub fn arrived(block: &[u8], line: &mut [u8], input: Input, got: Filled) -> Input
+fn arrived(block: &[u8], line: &mut [u8], input: Input, got: Filled) -> Input
     ensures { λ r. ⌜ Arrives (now (block .entry)) (now (line .entry)) input got r (now (line .exit)) ⌝ }
 {
     let Filled::Bytes(n) = got else {
@@ -98,13 +97,13 @@ fn stopped(kept: usize, failed: bool) -> Input
 }
 
 // Takes on the rest of a block up to its first newline.
-pub fn take_on(block: &[u8], line: &mut [u8], input: Input) -> Input
+fn take_on(block: &[u8], line: &mut [u8], input: Input) -> Input
     ensures { λ r. ⌜ TakesOn (now (block .entry)) (now (line .entry)) input r (now (line .exit)) ⌝ }
 {
-    let to = least(input.to, block.len());
-    let from = least(input.from, to);
+    let to = lower(input.to, block.len());
+    let from = lower(input.from, to);
     let rest = &block[..to];
-    let e = line_end(rest, from);
+    let e = words::until(rest, from, b'\n');
     let h = held(line, input);
     let kept = keep(line, h, &rest[from..e]);
     if e < to {
@@ -134,7 +133,7 @@ fn held(line: &[u8], input: Input) -> usize
     if input.whole {
         return 0;
     }
-    least(input.kept, line.len())
+    lower(input.kept, line.len())
 }
 
 // Puts a further part of the line in hand behind what is kept of it, as far as there is room.
@@ -142,12 +141,6 @@ fn keep(line: &mut [u8], held: usize, part: &[u8]) -> usize
     requires { ⌜ held ≤ length (now line) ⌝ }
     ensures { λ r. ⌜ Keeps held (now (line .entry)) (now (part .entry)) r (now (line .exit)) ⌝ }
 {
-    let m = least(part.len(), line.len() - held);
+    let m = lower(part.len(), line.len() - held);
     pieces::append(line, held, &part[..m])
-}
-
-fn least(a: usize, b: usize) -> usize
-    ensures { λ r. ⌜ r ≡ min a b ⌝ }
-{
-    if a < b { a } else { b }
 }

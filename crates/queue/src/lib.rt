@@ -3,10 +3,11 @@
 ghost use mathlib.Core.Path.{_≡_};
 ghost use mathlib.Core.Bool.{true};
 ghost use mathlib.Core.List.{[], _∷_};
-ghost use Prim.Native.Nat.{_+_, _≤_, min};
+ghost use Prim.Native.Nat.{_+_, _≤_};
 ghost use lib.ListN.{length};
 ghost use Rattle.queue.specs.Waiting.{Joins, Flushed};
 use libc::STDOUT_FILENO;
+use word64::lower;
 
 // How many characters wait at the front of the array, and whether some could not be written.
 pub struct Queue {
@@ -45,7 +46,7 @@ pub fn put(out: &mut [u8], q: Queue, c: u8) -> Queue
 pub fn flush(out: &[u8], q: Queue) -> Queue
     ensures { λ r. ⌜ Flushed q (now (out .entry)) r ⌝ }
 {
-    let n = least(q.waiting, out.len());
+    let n = lower(q.waiting, out.len());
     if n == 0 {
         return Queue {
             waiting: 0,
@@ -55,12 +56,6 @@ pub fn flush(out: &[u8], q: Queue) -> Queue
     let wrote = io::write_all(STDOUT_FILENO, &out[..n]);
     let lost = if wrote { q.lost } else { true };
     Queue { waiting: 0, lost }
-}
-
-fn least(a: usize, b: usize) -> usize
-    ensures { λ r. ⌜ r ≡ min a b ⌝ }
-{
-    if a < b { a } else { b }
 }
 
 // Puts a piece of text: at once where there is room behind what waits.

@@ -27,9 +27,20 @@ module _ (c : ℕ) (text : List ℕ) (i : ℕ) where
     unfolding upTo
     up-on n = rw (drop-cons text i 0 h, ne-eqb (getD text i 0) c n, add-one i)
 
+-- behind no character, and behind one more that is none
+module _ (c : ℕ) (text : List ℕ) (at : ℕ) where
+  pub up-nowhere : upTo c (drop at text) ≡ 0 + upTo c (drop (at + 0) text)
+  up-nowhere = let same : at + 0 ≡ at = omega arith in rw same (omega arith)
+
+  pub up-behind : (j : ℕ) → at + j < length text → upTo c (drop at text) ≡ j + upTo c (drop (at + j) text) → (getD text (at + j) 0 ≡ c → ⊥)
+      → upTo c (drop at text) ≡ j + 1 + upTo c (drop (at + (j + 1)) text)
+  up-behind j h e n =
+      let same : at + (j + 1) ≡ at + j + 1 = omega arith in
+      rw same (omega (arith, e, up-on c text (at + j) h n))
+
 -- ---- what a caller may cut out
 
-up-within : (c : ℕ) (text : List ℕ) → upTo c text ≤ length text
+pub up-within : (c : ℕ) (text : List ℕ) → upTo c text ≤ length text
 unfolding upTo
 up-within c [] = omega arith
 up-within c (d ∷ text) = by (eqb d c) (up-within c text)

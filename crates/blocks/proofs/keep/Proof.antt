@@ -8,14 +8,14 @@ use borrow.Author.Needs.{needs}
 use Rattle.blocks.proofs.keep.Statement.{statement}
 use Rattle.blocks.proofs.keep.Tie as tie
 
-sub-least : tie.Need-sub-least
-sub-least c = search needs
+sub-lower : tie.Need-sub-lower
+sub-lower c = search needs
 
-least-requires : tie.Need-least-requires
-least-requires c κs = search needs
+lower-requires : tie.Need-lower-requires
+lower-requires c κs = search needs
 
 slice-aggregate-append : tie.Need-slice-aggregate-append
-slice-aggregate-append c = sym (length-take-le (c .before .before .least .result) (now (c .before .before .before .before .before .args .part)) (omega arith))
+slice-aggregate-append c = sym (length-take-le (c .before .before .lower .result) (now (c .before .before .before .before .before .args .part)) (omega arith))
 
 append-requires : tie.Need-append-requires
 append-requires c κs = search needs
@@ -24,9 +24,9 @@ same-length : tie.Need-same-length
 same-length c = search needs
 
 returns : tie.Need-returns
-returns c = keeps (c .before .before .before .before .before .before .before .before .args .held) (c .before .before .before .before .before .least .result) (c .before .before .append .result) (now (c .before .before .before .before .before .before .before .before .args .line)) (now (c .before .before .before .before .before .before .before .before .args .part)) _ (omega arith) (c .before .before .before .before .before .least .ensures) (c .before .before .append .ensures)
+returns c = keeps (c .before .before .before .before .before .before .before .before .args .held) (c .before .before .before .before .before .lower .result) (c .before .before .append .result) (now (c .before .before .before .before .before .before .before .before .args .line)) (now (c .before .before .before .before .before .before .before .before .args .part)) _ (omega arith) (c .before .before .before .before .before .lower .ensures) (c .before .before .append .ensures)
 
 pub keep-spec : {M : Type 1} → statement M
 keep-spec =
     tie.close
-    (tie.spec sub-least least-requires slice-aggregate-append append-requires same-length returns)
+    (tie.spec sub-lower lower-requires slice-aggregate-append append-requires same-length returns)

@@ -1,5 +1,5 @@
--- `blocks::ends::free` meets its contract. The loop's invariant: where none is still true, no newline lies in the characters before. The measure is how
--- many of the sixteen are left. Assumes nothing.
+-- `words::free` meets its contract. The loop's invariant: where none is still true, the first c lies behind the characters so far. The measure is
+-- how many of the sixteen are left. Assumes nothing.
 use mathlib.Core.Bool.{Bool, true, false}
 use mathlib.Core.Logic.{⊎-elim}
 use mathlib.Core.Path.{_≡_, refl, sym, _∙_}
@@ -7,16 +7,17 @@ use Prim.Native.Nat.{ℕ, _+_, _-_, _≤_, _<_}
 use native.Mathlib.Omega.{arith}
 use borrow.Author.Needs.{needs}
 use denote.Ref.{now}
-use lib.ListN.{getD}
-use Rattle.blocks.proofs.Newlines.{none-more}
-use Rattle.blocks.proofs.ends.free.Statement.{statement}
-use Rattle.blocks.proofs.ends.free.Tie as tie
+use lib.ListN.{length, drop}
+use Rattle.words.specs.Words.{upTo}
+use Rattle.words.proofs.Marks.{up-nowhere, up-behind}
+use Rattle.words.proofs.free.Statement.{statement}
+use Rattle.words.proofs.free.Tie as tie
 
 abbrev Inv-loop : tie.InvT-loop
-Inv-loop block at none₀ j₀ none j = (j ≤ 16) × (none ≡ true → (i : ℕ) → at ≤ i → i < at + j → getD block i 0 ≡ 10 → ⊥)
+Inv-loop text at c none₀ j₀ none j = (j ≤ 16) × (none ≡ true → upTo c (drop at text) ≡ j + upTo c (drop (at + j) text))
 
 abbrev μ-loop : tie.MeasureT-loop
-μ-loop block at none₀ j₀ none j = 16 - j
+μ-loop text at c none₀ j₀ none j = 16 - j
 
 -- it cannot be both
 never : {A : Type 0} (b : Bool) → b ≡ false → b ≡ true → A
@@ -29,7 +30,7 @@ returns : tie.Need-returns Inv-loop μ-loop
 returns c = λ e. never _ refl e
 
 loop-holds : tie.Need-loop-holds Inv-loop μ-loop
-loop-holds c = (omega arith, λ e i l m n. omega arith)
+loop-holds c = (omega arith, λ e. up-nowhere (c .before .args .c) (now (c .before .args .text)) (c .before .args .at))
 
 add-if2 : tie.Need-add-if2 Inv-loop μ-loop
 add-if2 c = let l = c .before .before .if1 .left in omega (arith, c .before .before .before .pre, c .before .loop .inv .0)
@@ -46,18 +47,21 @@ loop-less c = let m = c .before .before .loop-test .taken in omega arith
 loop-again : tie.Need-loop-again Inv-loop μ-loop
 loop-again c =
     let m = c .before .before .loop-test .taken in
-    let at = c .before .before .before .before .before .args .at in
-    let j = c .before .before .before .loop .j in (
+    let a = c .before .before .before .before .before .args in
+    let j = c .before .before .before .loop .j in
+    let room = c .before .before .before .before .if1 .left in
+    let pre = c .before .before .before .before .before .pre in (
       omega arith,
       ⊎-elim (λ w e. never _ (w .1) e)
-          (λ w e i l k n. none-more (now (c .before .before .before .before .before .args .block)) at (at + j) (c .before .before .before .loop .inv .1 (sym (w .1) ∙ e)) (w .0 .left) i l (omega arith) n) (c .if2 .came),
+          (λ w e. up-behind (a .c) (now (a .text)) (a .at) j (omega (arith, pre)) (c .before .before .before .loop .inv .1 (sym (w .1) ∙ e)) (w .0 .left)) (c .if2 .came),
     )
 
 returns-2 : tie.Need-returns-2 Inv-loop μ-loop
 returns-2 c =
     let l = c .before .before .if1 .left in
     let m = c .loop-test .left in
-    λ e. record { within = omega (arith, c .before .before .before .pre); none = λ i k h n. c .before .loop .inv .1 e i k (omega arith) n }
+    let j : c .before .loop .j ≡ 16 = omega (arith, c .before .loop .inv .0) in
+    λ e. (omega (arith, c .before .before .before .pre), rw (sym j) (c .before .loop .inv .1 e))
 
 pub free-spec : {M : Type 1} → statement M
 free-spec =
