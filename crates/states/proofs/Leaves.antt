@@ -1,4 +1,4 @@
--- Each promise of this crate's own functions is met by one answer alone. Assumes nothing.
+-- Each promise of the functions over these definitions (`lookback`, `noting`, `short`) is met by one answer alone. Assumes nothing.
 use mathlib.Core.Path.{_≡_, refl, sym, ap, _∙_}
 use mathlib.Core.Bool.{Bool, _&&_}
 use mathlib.Core.List.{List, []}
