@@ -1,12 +1,12 @@
 -- What the loop that measures a list of values goes by: the driver over values. Assumes nothing.
 use mathlib.Core.Path.{_≡_, refl, ap, _∙_}
-use mathlib.Core.Bool.{true, false}
+use mathlib.Core.Bool.{Bool, true, false, cond}
 use mathlib.Core.List.{List, [], _∷_}
 use Prim.Native.Nat.{ℕ, _+_, _^_, _≤_, _<_}
 use native.Mathlib.Numerals.{add-one}
 use native.Mathlib.Omega.{arith}
-use borrow.Author.Tests.{ltb-true, le-leb, lt-leb}
-use lib.Dec.{ltb}
+use borrow.Author.Tests.{ltb-true, leb-true, leb-false, le-leb, lt-leb}
+use lib.Dec.{leb, ltb}
 use lib.ListN.{length, drop, getD, length-drop, drop-of-length-le}
 use lib.Seq.{drop-cons}
 use Rattle.format.specs.Rules.{begun, paper, spotOf, spotAt, placeFrom, fieldPlace}
@@ -19,8 +19,9 @@ use Rattle.format.specs.declared.Kind.the-variants.{Ended, Trailing, Wide, Full
 use Rattle.format.specs.declared.Answer.the-variants.{Accepted}
 use Rattle.laws.proofs.Sources.{Listed, from-values}
 use Rattle.states.specs.Machine.{contextOf, view, Beginning}
-use Rattle.states.specs.Writer.{sizeOf}
+use Rattle.states.specs.Writer.{sizeOf, fitting}
 use Rattle.states.specs.declared.State.{State}
+use Rattle.states.specs.declared.Verdict.the-variants.{Fine, Broken}
 use Rattle.states.specs.declared.Outcome.{Outcome}
 use Rattle.states.specs.declared.Outcome.the-variants.{Go, Over, Breaks}
 use Rattle.states.proofs.Directions.{Passed}
@@ -83,7 +84,7 @@ module _ {vs rows : List ℕ} {st : State} {i : ℕ} (m : Measures vs rows st i)
     next-is : drop i vs ≡ v ∷ drop (i + 1) vs
     next-is = rw (add-one i) (drop-cons vs i 0 h)
 
-    pub ends-wide : ltb v (2 ^ w) ≡ false → (end : ℕ)
+    ends-wide : ltb v (2 ^ w) ≡ false → (end : ℕ)
         → write paper vs ≡ refused (record { kind = Wide; place = placeFrom Wide (st .at) end (contextOf [] st) })
     unfolding write fieldPlace placeFrom spotOf spotAt
     ends-wide k end =
@@ -91,13 +92,36 @@ module _ {vs rows : List ℕ} {st : State} {i : ℕ} (m : Measures vs rows st i)
         (ap (fromValues q) next-is ∙ lacks-wide q (fieldAt (st .todo .node)) field-is v (drop (i + 1) vs) (rw (← ew) k)) (λ l. refl)
 
     module _ (small : ltb v (2 ^ w) ≡ true) where
-      pub ends-full : 830 < st .at + w → (end : ℕ)
+      ends-full : 830 < st .at + w → (end : ℕ)
           → write paper vs ≡ refused (record { kind = Full; place = placeFrom Full (st .at) end (contextOf [] st) })
       unfolding write fieldPlace placeFrom spotOf spotAt
       ends-full k end =
           refused-lacking fromValues valuesIn Listed from-values vs (m .drives)
           (ap (fromValues q) next-is ∙ lacks-full q (fieldAt (st .todo .node)) field-is v (drop (i + 1) vs) (rw (← ew) small) (rw (← ew) k)) (λ l. refl)
 
+    module _ {end : ℕ} (past : end ≡ st .at + w) where
+      unfit : {k : Kind} (small room : Bool) → ltb v (2 ^ w) ≡ small → leb end 830 ≡ room → cond small (cond room Fine (Broken Full)) (Broken Wide) ≡ Broken k
+          → write paper vs ≡ refused (record { kind = k; place = placeFrom k (st .at) end (contextOf [] st) })
+      unfit {k} false room e f h = let z : Wide ≡ k = cc in rw (← z) (ends-wide e end)
+      unfit {k} true false e f h = let z : Full ≡ k = cc in rw (← z) (ends-full e (rw (← past) (leb-false end 830 f)) end)
+      unfit {k} true true e f h = let z : _≡_ {A = ℕ} 0 1 = cc in absurd (omega arith)
+
+      -- the first rule of the two that is broken
+      pub ends-unfit : {k : Kind} → fitting v w end ≡ Broken k
+          → write paper vs ≡ refused (record { kind = k; place = placeFrom k (st .at) end (contextOf [] st) })
+      ends-unfit h = unfit (ltb v (2 ^ w)) (leb end 830) refl refl h
+
+      both : (small room : Bool) → ltb v (2 ^ w) ≡ small → leb end 830 ≡ room → cond small (cond room Fine (Broken Full)) (Broken Wide) ≡ Fine
+          → (ltb v (2 ^ w) ≡ true) × (st .at + w ≤ 830)
+      both false room e f h = let z : _≡_ {A = ℕ} 0 1 = cc in absurd (omega arith)
+      both true false e f h = let z : _≡_ {A = ℕ} 0 1 = cc in absurd (omega arith)
+      both true true e f h = (e, rw (← past) (leb-true end 830 f))
+
+      -- where both are kept
+      pub fits-both : fitting v w end ≡ Fine → (ltb v (2 ^ w) ≡ true) × (st .at + w ≤ 830)
+      fits-both h = both (ltb v (2 ^ w)) (leb end 830) refl refl h
+
+    module _ (small : ltb v (2 ^ w) ≡ true) where
       pub fits : v < 2 ^ fieldAt (st .todo .node) .width
       fits = rw (← ew) (ltb-true v (2 ^ w) small)
 

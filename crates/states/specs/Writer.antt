@@ -2,16 +2,18 @@
 use mathlib.Core.Path.{_≡_}
 use mathlib.Core.Bool.{cond}
 use mathlib.Core.List.{List, _++_}
-use Prim.Native.Nat.{ℕ, _≤_}
-use lib.Dec.{leb}
+use Prim.Native.Nat.{ℕ, _^_, _≤_}
+use lib.Dec.{leb, ltb}
 use lib.ListN.{length, drop}
 use Rattle.bits.specs.Bits.{bytesOf}
 use Rattle.format.specs.Rules.{Terms, paper}
 use Rattle.format.specs.Telegrams.{Entry, Result, Telegram, bits, bitCount, values, write}
 use Rattle.format.specs.Telegrams.Result.{accepted, refused}
-use Rattle.format.specs.declared.Kind.the-variants.{Room}
+use Rattle.format.specs.declared.Kind.the-variants.{Room, Wide, Full}
 use Rattle.format.specs.declared.Answer.{Answer}
 use Rattle.states.specs.Reader.{atOnce, answered}
+use Rattle.states.specs.declared.Verdict.{Verdict}
+use Rattle.states.specs.declared.Verdict.the-variants.{Fine, Broken}
 
 -- the writer, lent so many bytes. "1: output shorter than .. 104 bytes"
 unfoldable pub writeInto : Terms → List ℕ → ℕ → Result
@@ -30,6 +32,10 @@ bytesOver (refused r) before = before
 pub record Write (p : Terms) (vs : List ℕ) (before : List ℕ) (answer : Answer) (after : List ℕ) : Type 0 where
   pub answers : answer ≡ sizeOf (writeInto p vs (length before))
   pub contents : after ≡ bytesOver (writeInto p vs (length before)) before
+
+-- a value for a field of w bits that ends at the bit end. "At one field: 5, 12, 13"
+abbrev pub fitting : ℕ → ℕ → ℕ → Verdict
+fitting v w end = cond (ltb v (2 ^ w)) (cond (leb end 830) Fine (Broken Full)) (Broken Wide)
 
 -- ---- the second run, over values that are an accepted telegram of n bits
 

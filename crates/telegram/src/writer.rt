@@ -14,9 +14,11 @@ use crate::state::begin;
 use crate::todo::advance;
 use format::Answer;
 use format::Kind;
+use short::fitting;
 use states::Ahead;
 use states::Outcome;
 use states::Todo;
+use states::Verdict;
 
 // Writes the telegram with these values into out, and answers its n. A refusal leaves out as it was.
 pub fn write(values: &[u64], out: &mut [u8]) -> Answer
@@ -49,11 +51,8 @@ pub(crate) fn measure(values: &[u64]) -> Answer
             return refused(Kind::Ended, st, end);
         }
         let v = values[i];
-        if !bits::fits(v, w) {
-            return refused(Kind::Wide, st, end);
-        }
-        if 830 < end {
-            return refused(Kind::Full, st, end);
+        if let Verdict::Broken(kind) = fitting(v, w, end) {
+            return refused(kind, st, end);
         }
         match step(&rows, st, v, repeated_in_values(&rows, values, i, st, v)) {
             Outcome::Breaks(kind) => {
