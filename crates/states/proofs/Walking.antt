@@ -6,6 +6,8 @@ use mathlib.Core.Path.{_≡_, refl, sym, ap, _∙_}
 use Prim.Native.Nat.{ℕ, suc, _+_, _-_, _≤_, _<_}
 use native.Mathlib.Numerals.{add-one}
 use native.Mathlib.Omega.{arith}
+use native.Mathlib.Decide.{decLe}
+use borrow.Author.Tests.{eq-eqb, ne-eqb}
 use lib.Dec.{eqb, T}
 use lib.ListN.{length, take, drop, getD, length-drop}
 use lib.Seq.{drop-at, drop-cons, getD-take, length-take-le, take-at}
@@ -206,10 +208,10 @@ module _ {vs : List ℕ} {n id dir : ℕ} {t : Todo} {i : ℕ} (w : Walking vs n
           let b : Advanced t v (On u) = rw m at a in
           record { tidy = b .tidy; same = one-walked ∙ rw (e, b .items) }
 
--- whether a packet begins and collides, by the tests
-module _ (t : Todo) (d : Tidy t) (c : Bool) where
-  pub begun-here : act (t .node) ≡ 0 → {r : Bool} → r ≡ c → r ≡ (begins (todoOf t) && c)
-  begun-here z e = rw (todo-begins t d z) e
-
-  pub begun-not : (act (t .node) ≡ 0 → ⊥) → false ≡ (begins (todoOf t) && c)
-  begun-not z = rw (todo-begins-not t z)
+-- whether a packet begins and collides, by the row's act
+pub begun-at : (t : Todo) → Tidy t → (c : Bool) → (eqb (act (t .node)) 0 && c) ≡ (begins (todoOf t) && c)
+begun-at t d c = by (decLe (act (t .node)) 0)
+  where
+    by : Dec (act (t .node) ≤ 0) → (eqb (act (t .node)) 0 && c) ≡ (begins (todoOf t) && c)
+    by (yes h) = let z : act (t .node) ≡ 0 = omega arith in rw (eq-eqb (act (t .node)) 0 z, todo-begins t d z)
+    by (no h) = let z : act (t .node) ≡ 0 → ⊥ = λ e. h (omega arith) in rw (ne-eqb (act (t .node)) 0 z, todo-begins-not t z)

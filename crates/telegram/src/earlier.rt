@@ -12,13 +12,12 @@ use crate::rows::act;
 use crate::rows::code;
 use crate::todo::advance;
 use lookback::collides_in_bits;
-use lookback::meets;
+use lookback::row_meets;
 use states::Ahead;
 use states::Level;
 use states::State;
 use states::Todo;
 use states::codes::DIRECTION;
-use states::codes::END;
 
 // The fields of a header, which are as many values.
 const FRONT: usize = 10;
@@ -107,8 +106,5 @@ fn packet_meets(rows: &[u16; 213], t: Todo, v: u64, w: u64, id: u64, dir: u64) -
     requires { ⌜ (now rows ≡ words) × Tidy t ⌝ }
     ensures { λ r. ⌜ r ≡ (begins (todoOf t) && (eqb id v && clash dir w)) ⌝ }
 {
-    if act(rows, t.node) != END {
-        return false;
-    }
-    meets(v, w, id, dir)
+    row_meets(act(rows, t.node), v, w, id, dir)
 }
