@@ -2,11 +2,11 @@
 use mathlib.Core.Path.{_≡_, refl, sym, ap, _∙_}
 use mathlib.Core.Bool.{Bool, _&&_}
 use mathlib.Core.List.{List, []}
-use Prim.Native.Nat.{ℕ}
+use Prim.Native.Nat.{ℕ, _%_, _^_}
 use lib.Dec.{eqb}
 use Rattle.bits.proofs.Once.{Once, equation-once}
 use Rattle.format.specs.Normal.{viewOf}
-use Rattle.format.specs.Rules.{Earlier, Context, spotOf, clash, collidesAmong}
+use Rattle.format.specs.Rules.{Earlier, Context, placeFrom, clash, collidesAmong}
 use Rattle.format.specs.Telegrams.{Entry}
 use Rattle.format.specs.declared.Kind.{Kind}
 use Rattle.states.specs.Machine.{Noted, senseOf, contextOf, levelOf, unread, slight}
@@ -38,8 +38,8 @@ slight-once r v = equation-once (slight r v)
 pub closes-once : (s : State) (at : ℕ) → Once (λ r. (l : List Earlier) → r ≡ rules.closes at (contextOf l s) (levelOf (s .level)))
 closes-once s at a b p q = p [] ∙ sym (q [])
 
-pub spot-once : (k : Kind) (s : State) (end : ℕ) → Once (λ r. (l : List Earlier) → r ≡ spotOf k end (contextOf l s))
-spot-once k s end a b p q = p [] ∙ sym (q [])
+pub place-once : (k : Kind) (s : State) (end : ℕ) → Once (λ r. (l : List Earlier) → r ≡ placeFrom k (s .at) end (contextOf l s) % 2 ^ 64)
+place-once k s end a b p q = p [] ∙ sym (q [])
 
 -- a way of counting is known by what it stands for
 view-same : (a b : View) → viewIs a ≡ viewIs b → a ≡ b
