@@ -9,6 +9,7 @@ use Rattle.format.specs.Normal.{viewOf}
 use Rattle.format.specs.Rules.{Earlier, Context, placeFrom, clash, collidesAmong}
 use Rattle.format.specs.Telegrams.{Entry}
 use Rattle.format.specs.declared.Kind.{Kind}
+use Rattle.states.specs.Heads.{frontOf}
 use Rattle.states.specs.Machine.{Noted, senseOf, contextOf, levelOf, unread, slight}
 use Rattle.states.specs.Normaliser.{viewIs}
 use Rattle.states.specs.Reader.{sized}
@@ -22,6 +23,9 @@ use Rattle.format.specs.Rules as rules
 
 pub sized-once : (s : List ℕ) (n : ℕ) → Once (λ r. r ≡ sized s n)
 sized-once s n = equation-once (sized s n)
+
+pub header-once : (s : List ℕ) (n : ℕ) → Once (λ r. r ≡ frontOf s n)
+header-once s n = equation-once (frontOf s n)
 
 pub collides-once : (s : List ℕ) (stop id dir : ℕ) → Once (λ r. r ≡ collidesAmong clash id dir (packetsBefore s stop))
 collides-once s stop id dir = equation-once (collidesAmong clash id dir (packetsBefore s stop))
