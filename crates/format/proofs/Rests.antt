@@ -5,7 +5,7 @@ use mathlib.Core.Bool.{Bool, true, not, _&&_}
 use Prim.Native.Nat.{ℕ, suc, _+_, _-_, _/_, _%_, _<_}
 use borrow.Author.Tests.{eq-eqb, ne-eqb, lt-ltb}
 use lib.Dec.{T, eqb, eqb→eq, ltb, ltb→lt}
-use Rattle.format.specs.Table.{Row, rows, rowAt, act, fieldAt, jump, codeOf, lowOf, highOf, restOf, rest, codeBy, lowBy, highBy}
+use Rattle.format.specs.Table.{Row, rows, rowAt, act, fieldAt, jump, codeOf, lowOf, highOf, restOf, rest, codeBy, lowBy, highBy, leapBy}
 use Rattle.format.proofs.Rows.{every, row-law, imp, imp-use, and-left, and-right}
 
 -- ---- what the rest of a row says
@@ -32,12 +32,16 @@ two-law : (f g h : ℕ → Row → Bool) → T (every (λ k r. imp (f k r && g k
 two-law f g h t k l e d =
     imp-use (f k (rowAt k) && g k (rowAt k)) (h k (rowAt k)) (row-law (λ k r. imp (f k r && g k r) (h k r)) t k l) (rw (e, d))
 
--- a field that chooses or repeats jumps that far ahead
-pub rest-ahead : (k : ℕ) → k < 213 → 3 < act k → k + rest k ≡ jump k
+-- a field that steers jumps that far ahead
+pub rest-ahead : (k : ℕ) → k < 213 → 2 < act k → k + leapBy (act k) (rest k) ≡ jump k
 unfolding rows
 rest-ahead k l e =
     eqb→eq _ _
-    (imp-use (ltb 3 (act k)) (eqb (k + rest k) (jump k)) (row-law (λ k r. imp (ltb 3 (r .act)) (eqb (k + restOf k r) (r .jump))) tt k l) (lt-ltb 3 (act k) e))
+    (imp-use (ltb 2 (act k)) (eqb (k + leapBy (act k) (rest k)) (jump k)) (row-law (λ k r. imp (ltb 2 (r .act)) (eqb (k + leapBy (r .act) (restOf k r)) (r .jump))) tt k l) (lt-ltb 2 (act k) e))
+
+pub leap-small : (k : ℕ) → k < 213 → leapBy (act k) (rest k) < 64
+unfolding rows
+leap-small k l = ltb→lt _ _ (row-law (λ k r. ltb (leapBy (r .act) (restOf k r)) 64) tt k l)
 
 -- a group's end jumps that far back, and a packet's end to row 0
 pub rest-back : (k : ℕ) → k < 213 → act k ≡ 0 → 0 < rest k → jump k + rest k ≡ suc k

@@ -240,6 +240,10 @@ lowBy r = cond (ltb r 48) 0 (cond (ltb r 52) 1 (cond (eqb r 62) 16 0))
 abbrev pub highBy : ℕ → ℕ
 highBy r = cond (ltb r 10) 0 (cond (ltb r 52) (r % 16) (cond (eqb r 62) 16 0))
 
+-- how many rows ahead a field leads that steers, unless it is followed by the next row; the field that is left out unless its switch is 1 is one row
+abbrev pub leapBy : ℕ → ℕ → ℕ
+leapBy a r = cond (eqb a 3) 2 r
+
 -- the number of each row's field
 unfoldable pub fieldNumbers : List ℕ
 unfolding rows

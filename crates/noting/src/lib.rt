@@ -1,9 +1,9 @@
-// What later rules go by: what a packet's values leave for them, whether a packet that ends is as long as it said, and what a refusal
-// points at.
+// What later rules go by: what a packet's values leave for them, whether a packet that ends is as long as it said, and where what a
+// refusal points at begins.
 ghost use mathlib.Core.Path.{_≡_};
 ghost use mathlib.Core.List.{List};
-ghost use Prim.Native.Nat.{_-_};
-ghost use Rattle.format.specs.Rules.{Earlier, spotOf};
+ghost use Prim.Native.Nat.{_-_, _%_, _^_};
+ghost use Rattle.format.specs.Rules.{Earlier, spotOf, placeFrom};
 ghost use Rattle.format.specs.Rules as rules;
 ghost use Rattle.states.specs.Machine.{Noted, contextOf, levelOf};
 use format::Kind;
@@ -15,6 +15,7 @@ use states::codes::PACKET;
 use states::codes::PIG;
 use states::codes::SIZE;
 use states::codes::USER;
+use std::num::wrapping_add_usize;
 use table::number;
 
 // ---- what a value leaves for later rules
@@ -129,8 +130,21 @@ fn since(at: usize, from: usize) -> u64
 
 // ---- a refusal
 
-// What a refusal points at, found at the field that is due, which ends at the bit end.
-pub fn spot(kind: Kind, s: State, end: usize) -> Spot
+// The bit where what a refusal points at begins, found at the field that is due, which ends at the bit end. An L_PACKET stands behind NID_PACKET 8 and
+// Q_DIR 2, or behind NID_XUSER 9 and Q_DIR 2. A packet of a telegram begins before bit 830; any other number is answered too, as the machine counts.
+pub fn place(kind: Kind, s: State, end: usize) -> usize
+    ensures { λ r. ⌜ ((l : List Earlier) → r ≡ placeFrom kind (s .at) end (contextOf l s) % 2 ^ 64) ⌝ }
+{
+    match spot(kind, s, end) {
+        Spot::Due => s.at,
+        Spot::Behind => end,
+        Spot::Outer => wrapping_add_usize(s.start, 10),
+        Spot::Inner => wrapping_add_usize(s.userstart, 11),
+    }
+}
+
+// What it points at.
+fn spot(kind: Kind, s: State, end: usize) -> Spot
     ensures { λ r. ⌜ ((l : List Earlier) → r ≡ spotOf kind end (contextOf l s)) ⌝ }
 {
     let n = number(kind);

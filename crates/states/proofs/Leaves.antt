@@ -2,13 +2,14 @@
 use mathlib.Core.Path.{_≡_, refl, sym, ap, _∙_}
 use mathlib.Core.Bool.{Bool, _&&_}
 use mathlib.Core.List.{List, []}
-use Prim.Native.Nat.{ℕ}
+use Prim.Native.Nat.{ℕ, _%_, _^_}
 use lib.Dec.{eqb}
 use Rattle.bits.proofs.Once.{Once, equation-once}
 use Rattle.format.specs.Normal.{viewOf}
-use Rattle.format.specs.Rules.{Earlier, Context, spotOf, clash, collidesAmong}
+use Rattle.format.specs.Rules.{Earlier, Context, placeFrom, clash, collidesAmong}
 use Rattle.format.specs.Telegrams.{Entry}
 use Rattle.format.specs.declared.Kind.{Kind}
+use Rattle.states.specs.Heads.{frontOf}
 use Rattle.states.specs.Machine.{Noted, senseOf, contextOf, levelOf, unread, slight}
 use Rattle.states.specs.Normaliser.{viewIs}
 use Rattle.states.specs.Reader.{sized}
@@ -22,6 +23,9 @@ use Rattle.format.specs.Rules as rules
 
 pub sized-once : (s : List ℕ) (n : ℕ) → Once (λ r. r ≡ sized s n)
 sized-once s n = equation-once (sized s n)
+
+pub header-once : (s : List ℕ) (n : ℕ) → Once (λ r. r ≡ frontOf s n)
+header-once s n = equation-once (frontOf s n)
 
 pub collides-once : (s : List ℕ) (stop id dir : ℕ) → Once (λ r. r ≡ collidesAmong clash id dir (packetsBefore s stop))
 collides-once s stop id dir = equation-once (collidesAmong clash id dir (packetsBefore s stop))
@@ -38,8 +42,8 @@ slight-once r v = equation-once (slight r v)
 pub closes-once : (s : State) (at : ℕ) → Once (λ r. (l : List Earlier) → r ≡ rules.closes at (contextOf l s) (levelOf (s .level)))
 closes-once s at a b p q = p [] ∙ sym (q [])
 
-pub spot-once : (k : Kind) (s : State) (end : ℕ) → Once (λ r. (l : List Earlier) → r ≡ spotOf k end (contextOf l s))
-spot-once k s end a b p q = p [] ∙ sym (q [])
+pub place-once : (k : Kind) (s : State) (end : ℕ) → Once (λ r. (l : List Earlier) → r ≡ placeFrom k (s .at) end (contextOf l s) % 2 ^ 64)
+place-once k s end a b p q = p [] ∙ sym (q [])
 
 -- a way of counting is known by what it stands for
 view-same : (a b : View) → viewIs a ≡ viewIs b → a ≡ b

@@ -15,6 +15,7 @@ pub mod Drifting
 pub mod Driving
 pub mod Scanning
 pub mod LookedBack
+pub mod Front
 pub mod Fronting
 pub mod Heading
 pub mod Measuring

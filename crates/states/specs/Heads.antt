@@ -1,12 +1,14 @@
 -- The header taken at once, whose first 25 bits hold all of it that a rule reads; a packet's head, whose NID_PACKET, Q_DIR and L_PACKET are
 -- 23; and that of a CTCS packet, whose NID_XUSER, Q_DIR and L_PACKET are 24. Definitions alone.
 use mathlib.Core.Path.{_≡_}
-use mathlib.Core.Bool.{false}
+use mathlib.Core.Bool.{false, cond, _&&_}
 use mathlib.Core.List.{List}
 use mathlib.Core.Logic.{_⊎_}
 use Prim.Native.Nat.{ℕ, _+_, _/_, _%_, _≤_}
+use lib.Dec.{eqb, leb}
 use Rattle.bits.specs.Take.{takeAt}
-use Rattle.bits.specs.declared.Taken.the-variants.{Field}
+use Rattle.bits.specs.declared.Taken.{Taken}
+use Rattle.bits.specs.declared.Taken.the-variants.{Field, Short}
 use Rattle.format.specs.Rules.{clash, collidesAmong}
 use Rattle.format.specs.Table.{act, fieldAt, codeOf, etcsRow, ctcsRow}
 use Rattle.states.specs.Lookback.{packetsBefore, idIn, dirIn, longIn}
@@ -56,6 +58,15 @@ pub record Fronted (bytes : List ℕ) (n : ℕ) (r : State) : Type 0 where
 abbrev pub Started : List ℕ → ℕ → Begun → Type 0
 Started bytes n (To r) = Fronted bytes n r
 Started bytes n Not = Unit
+
+-- the same as an answer, by what is taken of the first 25 bits: the state behind the header, where all of it is there and keeps every rule
+abbrev pub frontBy : ℕ → Taken → Begun
+frontBy n (Field a c) =
+    cond (leb 50 n && (eqb (a / 65536) 288 && (leb (pigIn a) (totalIn a) && leb (dupIn a) 2))) (To (behind a)) Not
+frontBy n Short = Not
+
+abbrev pub frontOf : List ℕ → ℕ → Begun
+frontOf bytes n = frontBy n (takeAt bytes n 25 0)
 
 -- ---- a packet's head
 

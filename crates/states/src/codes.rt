@@ -1,14 +1,12 @@
 // The numbers of the table: what stands in a row, and the codes of fields.
 
-// What stands in a row: the end of a group or a packet, the packet inside one, a field, a field behind which the next is sent only if it is 1,
-// and a field that says how often a group is sent.
+// What stands in a row: the end of a group or a packet, the packet inside one, a field, and a field that says how often a group is sent. How far any other
+// field leads that steers says `table::leap`.
 pub const END: u32 = 0;
 
 pub const NEST: u32 = 1;
 
 pub const SEND: u32 = 2;
-
-pub const IF: u32 = 3;
 
 pub const TIMES: u32 = 5;
 

@@ -1,6 +1,6 @@
 // The packets as rows, each packed into one number: what the machine goes by.
 ghost use mathlib.Core.Path.{_≡_};
-ghost use Rattle.format.specs.Table.{words, codeBy, freeBy, lowBy, highBy};
+ghost use Rattle.format.specs.Table.{words, codeBy, freeBy, lowBy, highBy, leapBy};
 
 mod numbers;
 
@@ -292,4 +292,15 @@ pub fn high(r: u32) -> u64
         return 16;
     }
     0
+}
+
+// How many rows ahead the field in a row whose act is a and whose rest is r leads, where it steers and is not followed by the next row. The field that is
+// left out unless its switch is 1 is one row, so that the rest of its switch is free for the rule of the switch.
+pub fn leap(a: u32, r: u32) -> usize
+    ensures { λ x. ⌜ x ≡ leapBy a r ⌝ }
+{
+    if a == 3 {
+        return 2;
+    }
+    r as usize
 }

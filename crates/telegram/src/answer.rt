@@ -8,8 +8,7 @@ ghost use Rattle.states.specs.Machine.{contextOf};
 use format::Answer;
 use format::Kind;
 use format::Refusal;
-use format::Spot;
-use noting::spot;
+use noting::place;
 use states::State;
 
 pub(crate) fn refuse(kind: Kind, place: usize) -> Answer
@@ -24,17 +23,4 @@ pub(crate) fn refused(kind: Kind, s: State, end: usize) -> Answer
     ensures { λ r. ⌜ ((l : List Earlier) → r ≡ Refused (record { kind = kind; place = placeFrom kind (s .at) end (contextOf l s) })) ⌝ }
 {
     refuse(kind, place(kind, s, end))
-}
-
-// The bit where what it points at begins. An L_PACKET stands behind NID_PACKET 8 and Q_DIR 2, or behind NID_XUSER 9 and Q_DIR 2.
-fn place(kind: Kind, s: State, end: usize) -> usize
-    requires { ⌜ (s .start ≤ 65536) × (s .userstart ≤ 65536) ⌝ }
-    ensures { λ r. ⌜ ((l : List Earlier) → r ≡ placeFrom kind (s .at) end (contextOf l s)) ⌝ }
-{
-    match spot(kind, s, end) {
-        Spot::Due => s.at,
-        Spot::Behind => end,
-        Spot::Outer => s.start + 10,
-        Spot::Inner => s.userstart + 11,
-    }
 }

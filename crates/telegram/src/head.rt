@@ -5,7 +5,6 @@ ghost use Rattle.format.specs.Table.{words};
 ghost use Rattle.states.specs.Heads.{Started, Headed, Inward, Led};
 use crate::rows::act;
 use bits::Cursor;
-use bits::Skipped;
 use bits::Taken;
 use lookback::collides_in_bits;
 use states::Begun;
@@ -17,44 +16,11 @@ use states::codes::END;
 // The row of an ETCS-44 in which its CTCS packet is due: no other packet has one.
 const CARRIER: usize = 87;
 
-// The header, if it keeps every rule. Its first three fields are 1, 16 and 0, which is 288 in nine bits.
+// The header, if it keeps every rule.
 pub(crate) fn header(s: &[u8], n: usize) -> Begun
     ensures { λ r. ⌜ Started (now (s .entry)) n r ⌝ }
 {
-    let c = Cursor { at: 0 };
-    let Taken::Field(a, read) = c.take(s, n, 25) else {
-        return Begun::Not;
-    };
-    let Skipped::To(end) = read.skip(n, 25) else {
-        return Begun::Not;
-    };
-    let pig = a / 8192 % 8;
-    if a / 65536 != 288 {
-        return Begun::Not;
-    }
-    if a / 1024 % 8 < pig {
-        return Begun::Not;
-    }
-    if a / 256 % 4 == 3 {
-        return Begun::Not;
-    }
-    let todo = Todo {
-        node: 0,
-        left: 0,
-        outer: 0,
-    };
-    Begun::To(State {
-        at: end.at,
-        todo,
-        level: Level::Packet,
-        start: end.at,
-        id: 0,
-        dir: 0,
-        long: 0,
-        userstart: 0,
-        userlong: 0,
-        pig,
-    })
+    short::header(s, n)
 }
 
 // The head that is due, if one is: of a packet, or of the CTCS packet inside one.

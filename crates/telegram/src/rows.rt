@@ -6,7 +6,6 @@ ghost use mathlib.Core.Path.{_≡_};
 ghost use Prim.Native.Nat.{_<_};
 ghost use Rattle.format.specs.Table.{act, rest, fieldAt, jump, codeOf, lowOf, highOf};
 ghost use Rattle.states.specs.Machine.{InTable};
-use states::codes::IF;
 
 pub(crate) fn act(rows: &[u16; 213], k: usize) -> u32
     requires { ⌜ InTable (now rows) k ⌝ }
@@ -52,15 +51,12 @@ pub(crate) fn high(rows: &[u16; 213], k: usize) -> u64
     table::high(rest(rows, k))
 }
 
-// Where a field leads that steers, unless it is followed by the next row. The field that is left out unless its switch is 1 is one row.
+// Where a field leads that steers, unless it is followed by the next row.
 pub(crate) fn jump(rows: &[u16; 213], k: usize) -> usize
     requires { ⌜ InTable (now rows) k × (2 < act k) ⌝ }
     ensures { λ r. ⌜ r ≡ jump k ⌝ }
 {
-    if act(rows, k) == IF {
-        return k + 2;
-    }
-    k + rest(rows, k) as usize
+    k + table::leap(act(rows, k), rest(rows, k))
 }
 
 // The row that repeats the group whose end row k is, or 0 at a packet's end.

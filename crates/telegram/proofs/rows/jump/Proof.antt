@@ -1,35 +1,31 @@
--- `telegram::rows::jump` meets its contract: a field with a next only if it is 1 jumps over one row, and the rest of another says how far.
--- Assumes nothing.
-use mathlib.Core.Path.{sym, _∙_}
+-- `telegram::rows::jump` meets its contract: a field that steers leads as far ahead as `leap` says. Assumes nothing.
+use mathlib.Core.Path.{_≡_, _∙_, ap₂}
 use native.Mathlib.Omega.{arith}
 use borrow.Author.Needs.{needs}
-use Rattle.format.proofs.Rests.{rest-ahead, rest-small}
-use Rattle.format.proofs.Rows.{if-jump}
+use Rattle.format.specs.Table.{act, rest, leapBy}
+use Rattle.format.proofs.Rests.{rest-ahead, leap-small}
 use Rattle.telegram.proofs.rows.jump.Statement.{statement}
 use Rattle.telegram.proofs.rows.jump.Tie as tie
 
 act-requires : tie.Need-act-requires
 act-requires c κs = c .pre .0
 
+rest-requires : tie.Need-rest-requires
+rest-requires c κs = c .before .pre .0
+
+leap-requires : tie.Need-leap-requires
+leap-requires c κs = search needs
+
+leaps : (c : tie.After-leap) → let k = c .before .before .before .args .k in c .leap .result ≡ leapBy (act k) (rest k)
+leaps c = c .leap .ensures ∙ ap₂ leapBy (c .before .before .act .ensures) (c .before .rest .ensures)
+
 add-result : tie.Need-add-result
-add-result c = omega (arith, c .before .before .pre .0 .inside)
+add-result c =
+    let b = c .before .before .before in
+    omega (arith, b .pre .0 .inside, leaps c, leap-small (b .args .k) (b .pre .0 .inside))
 
 returns : tie.Need-returns
-returns c = let j = if-jump (c .before .before .args .k) (c .before .before .pre .0 .inside) (sym (c .before .act .ensures) ∙ c .if1 .taken) in omega arith
-
-rest-requires : tie.Need-rest-requires
-rest-requires c κs = c .before .before .pre .0
-
-cast-result : tie.Need-cast-result
-cast-result c = search needs
-
-add-result-2 : tie.Need-add-result-2
-add-result-2 c = omega (arith, c .before .before .before .pre .0 .inside, c .rest .ensures, rest-small (c .before .before .before .args .k) (c .before .before .before .pre .0 .inside))
-
-returns-2 : tie.Need-returns-2
-returns-2 c =
-    let n = c .before .if1 .left in
-    rw (c .rest .ensures) (rest-ahead (c .before .before .before .args .k) (c .before .before .before .pre .0 .inside) (omega (arith, c .before .before .before .pre .1, c .before .before .act .ensures)))
+returns c = let b = c .before .before .before in rw (leaps c) (rest-ahead (b .args .k) (b .pre .0 .inside) (b .pre .1))
 
 pub jump-spec : {M : Type 1} → statement M
-jump-spec = tie.close (tie.spec act-requires add-result returns rest-requires cast-result add-result-2 returns-2)
+jump-spec = tie.close (tie.spec act-requires rest-requires leap-requires add-result returns)
