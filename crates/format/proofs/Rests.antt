@@ -1,11 +1,14 @@
 -- What the rest of a row says: the code of its field, the ends of its range, and how far the row jumps. Tests that the checker computes over all
 -- rows. Assumes nothing.
-use mathlib.Core.Path.{_≡_, ap}
+use mathlib.Core.Path.{_≡_, sym, ap}
 use mathlib.Core.Bool.{Bool, true, not, _&&_}
-use Prim.Native.Nat.{ℕ, suc, _+_, _-_, _/_, _%_, _<_}
+use Prim.Native.Nat.{ℕ, suc, _+_, _-_, _/_, _%_, _≤_, _<_}
+use native.Mathlib.Decide.{decLe}
+use native.Mathlib.Nat.{lt-of-not-le}
+use native.Mathlib.Omega.{arith}
 use borrow.Author.Tests.{eq-eqb, ne-eqb, lt-ltb}
 use lib.Dec.{T, eqb, eqb→eq, ltb, ltb→lt}
-use Rattle.format.specs.Table.{Row, rows, rowAt, act, fieldAt, jump, codeOf, lowOf, highOf, restOf, rest, codeBy, lowBy, highBy, leapBy}
+use Rattle.format.specs.Table.{Row, rows, rowAt, act, fieldAt, jump, codeOf, lowOf, highOf, restOf, rest, codeBy, lowBy, highBy, leapBy, backBy}
 use Rattle.format.proofs.Rows.{every, row-law, imp, imp-use, and-left, and-right}
 
 -- ---- what the rest of a row says
@@ -55,6 +58,17 @@ unfolding rows
 rest-none k l e p =
     eqb→eq _ _
     (two-law (λ k r. eqb (r .act) 0) (λ k r. eqb (restOf k r) 0) (λ k r. eqb (r .jump) 0) tt k l (eq-eqb (act k) 0 e) (eq-eqb (rest k) 0 p))
+
+-- the row that repeats the group
+pub back-is : (k : ℕ) → k < 213 → act k ≡ 0 → backBy k (rest k) ≡ jump k
+back-is k l e = by (decLe (rest k) 0)
+  where
+    by : Dec (rest k ≤ 0) → backBy k (rest k) ≡ jump k
+    by (yes h) = let z : rest k ≡ 0 = omega arith in rw (eq-eqb (rest k) 0 z) (sym (rest-none k l e z))
+    by (no h) =
+        let p : 0 < rest k = lt-of-not-le h in
+        let b = rest-back k l e p in
+        rw (ne-eqb (rest k) 0 (λ z. h (omega arith))) (omega arith)
 
 -- what follows a group's last is the row behind its end
 pub group-out : (k : ℕ) → k < 213 → act k ≡ 0 → 0 < jump k → jump (jump k) ≡ suc k

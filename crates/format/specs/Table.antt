@@ -1,11 +1,11 @@
 -- The packets as rows of a table, which the machine of the code goes by. The rows are made here from the items, and nothing of them has
 -- to be believed: proofs/Rows.antt has the checker compute that they say what the items say. Definitions alone.
-use mathlib.Core.Bool.{cond}
+use mathlib.Core.Bool.{cond, _&&_}
 use mathlib.Core.List.{List, [], _∷_, _++_, map}
 use Prim.Native.Nat.{ℕ, zero, suc, _+_, _-_, _*_, _%_, _^_}
 use lib.Dec.{eqb, ltb}
 use lib.ListN.{length, getD}
-use Rattle.format.specs.Fields.{Field, Rule, Sense, Switch, steers, NID-PACKET, NID-XUSER}
+use Rattle.format.specs.Fields.{Field, Rule, Sense, Switch, steers, NID-PACKET, NID-XUSER, END}
 use Rattle.format.specs.Fields.Rule.{any, packet, user, direction, size, pig, total, radio, within}
 use Rattle.format.specs.Fields.Sense.{plain, scale, distance, textLength}
 use Rattle.format.specs.Packets.{Items, Packet, header, etcs, ctcs}
@@ -243,6 +243,14 @@ highBy r = cond (ltb r 10) 0 (cond (ltb r 52) (r % 16) (cond (eqb r 62) 16 0))
 -- how many rows ahead a field leads that steers, unless it is followed by the next row; the field that is left out unless its switch is 1 is one row
 abbrev pub leapBy : ℕ → ℕ → ℕ
 leapBy a r = cond (eqb a 3) 2 r
+
+-- the row that repeats the group which ends with row k, by the rest of row k; 0 where that is 0, at a packet's end
+abbrev pub backBy : ℕ → ℕ → ℕ
+backBy k r = cond (eqb r 0) 0 (k + 1 - r)
+
+-- the number of the field in a row with this act and this field's number, where it holds v: between packets 255 is the end mark
+abbrev pub numberBy : ℕ → ℕ → ℕ → ℕ
+numberBy a v f = cond (eqb a 0 && eqb v 255) (END .number) f
 
 -- the number of each row's field
 unfoldable pub fieldNumbers : List ℕ

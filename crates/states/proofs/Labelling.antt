@@ -33,22 +33,6 @@ use Rattle.states.proofs.Runs.{stored, held, valueDue, restDue, positiv
 use Rattle.states.proofs.Valued.{Valued, valued-first, valued-next, value-is, one-telegram}
 use Rattle.states.proofs.Writing.{written}
 
--- ---- which number, by the tests
-
-module _ (k v : ℕ) where
-  -- 255 between packets
-  pub mark-number : act k ≡ 0 → v ≡ 255 → END .number ≡ numberAt k v
-  mark-number e m = rw (eq-eqb (act k) 0 e, eq-eqb v 255 m)
-
-  -- anywhere else, and any other value
-  pub row-number : (act k ≡ 0 → ⊥) ⊎ (v ≡ 255 → ⊥) → fieldAt k .number ≡ numberAt k v
-  row-number (inl n) = rw (ne-eqb (act k) 0 n)
-  row-number (inr n) = rw (ne-eqb v 255 n) (neither (eqb (act k) 0))
-    where
-      neither : (b : Bool) → fieldAt k .number ≡ cond (b && false) (END .number) (fieldAt k .number)
-      neither true = refl
-      neither false = refl
-
 -- ---- a turn
 
 -- before a field: with the numbers of the fields that are left stored from i on, the run is what is promised

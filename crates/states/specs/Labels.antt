@@ -1,13 +1,12 @@
 -- Which field each value of a list is: what the function answers that says it, and what the lent run of numbers then holds. Definitions alone.
 use mathlib.Core.Path.{_≡_}
-use mathlib.Core.Bool.{cond, _&&_}
+use mathlib.Core.Bool.{cond}
 use mathlib.Core.List.{List, [], _∷_, _++_}
 use Prim.Native.Nat.{ℕ, _≤_}
-use lib.Dec.{eqb, leb}
+use lib.Dec.{leb}
 use lib.ListN.{length, drop}
-use Rattle.format.specs.Fields.{END}
 use Rattle.format.specs.Rules.{Terms, paper}
-use Rattle.format.specs.Table.{act, fieldAt}
+use Rattle.format.specs.Table.{act, fieldAt, numberBy}
 use Rattle.format.specs.Telegrams.{Entry, Result, Telegram, all, values, write}
 use Rattle.format.specs.Telegrams.Result.{accepted, refused}
 use Rattle.format.specs.declared.Kind.the-variants.{Room}
@@ -50,4 +49,4 @@ Labelled vs before after = (es : List Entry) → Telegram paper es → vs ≡ va
 
 -- the number of the field due in row k, which is no group's end, with the value v: between packets 255 is the end mark
 abbrev pub numberAt : ℕ → ℕ → ℕ
-numberAt k v = cond (eqb (act k) 0 && eqb v 255) (END .number) (fieldAt k .number)
+numberAt k v = numberBy (act k) v (fieldAt k .number)

@@ -1,10 +1,11 @@
 // The packets as rows, each packed into one number: what the machine goes by.
 ghost use mathlib.Core.Path.{_≡_};
-ghost use Rattle.format.specs.Table.{words, codeBy, freeBy, lowBy, highBy, leapBy};
+ghost use Rattle.format.specs.Table.{words, codeBy, freeBy, lowBy, highBy, leapBy, backBy};
 
 mod numbers;
 
 pub use numbers::fields;
+pub use numbers::named;
 pub use numbers::number;
 
 // From the lowest bit: 3 bits of the act, 7 of the field's width and 6 of the rest: the number of the field's rule, or how far the row
@@ -303,4 +304,19 @@ pub fn leap(a: u32, r: u32) -> usize
         return 2;
     }
     r as usize
+}
+
+// The row that repeats the group which ends with row k, whose rest is r: so many rows back, counted from the next. At a packet's end the rest is 0, and so
+// is this.
+pub fn back(k: usize, r: u32) -> usize
+    ensures { λ x. ⌜ x ≡ backBy k r ⌝ }
+{
+    let d = r as usize;
+    if d == 0 {
+        return 0;
+    }
+    if k < d {
+        return 0;
+    }
+    k - d + 1
 }

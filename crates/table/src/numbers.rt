@@ -1,8 +1,11 @@
 // The paper's numbers: of the field that each row sends, and of a refusal.
 ghost use mathlib.Core.Path.{_≡_};
 ghost use Rattle.format.specs.Refusals.{numberOf};
-ghost use Rattle.format.specs.Table.{fieldNumbers};
+ghost use Rattle.format.specs.Table.{fieldNumbers, numberBy};
 use format::Kind;
+
+// The number of the end mark's field.
+const MARK: u8 = 71;
 
 // Document 01's number of a refusal.
 pub fn number(kind: Kind) -> u64
@@ -247,4 +250,17 @@ pub fn fields() -> [u8; 213]
     ensures { λ r. ⌜ r ≡ fieldNumbers ⌝ }
 {
     FIELDS
+}
+
+// The number of the field that is due in a row whose act is a and whose number among the fields is f, where it holds v. Where a packet could begin,
+// 255 is no packet but the end mark, a field of its own.
+pub fn named(a: u32, v: u64, f: u8) -> u8
+    ensures { λ r. ⌜ r ≡ numberBy a v f ⌝ }
+{
+    if a == 0 {
+        if v == 255 {
+            return MARK;
+        }
+    }
+    f
 }

@@ -1,8 +1,8 @@
-// What stands in front, taken as one field: the header's first 25 bits, with all of it that a rule reads; a packet's NID_PACKET, Q_DIR and
-// L_PACKET, which are 23; and a CTCS packet's NID_XUSER, Q_DIR and L_PACKET, which are 24.
+// What stands in front of a packet, taken as one field: its NID_PACKET, Q_DIR and L_PACKET, which are 23 bits; and a CTCS packet's NID_XUSER, Q_DIR
+// and L_PACKET, which are 24.
 ghost use mathlib.Core.Path.{_≡_};
 ghost use Rattle.format.specs.Table.{words};
-ghost use Rattle.states.specs.Heads.{Started, Headed, Inward, Led};
+ghost use Rattle.states.specs.Heads.{Headed, Inward, Led};
 use crate::rows::act;
 use bits::Cursor;
 use bits::Taken;
@@ -15,13 +15,6 @@ use states::codes::END;
 
 // The row of an ETCS-44 in which its CTCS packet is due: no other packet has one.
 const CARRIER: usize = 87;
-
-// The header, if it keeps every rule.
-pub(crate) fn header(s: &[u8], n: usize) -> Begun
-    ensures { λ r. ⌜ Started (now (s .entry)) n r ⌝ }
-{
-    short::header(s, n)
-}
 
 // The head that is due, if one is: of a packet, or of the CTCS packet inside one.
 pub(crate) fn leading(rows: &[u16; 213], s: &[u8], n: usize, st: State) -> Begun

@@ -14,10 +14,6 @@ use format::Answer;
 use format::Kind;
 use states::Ahead;
 use states::Todo;
-use states::codes::END;
-
-// The number of the end mark's field.
-const MARK: u8 = 71;
 
 // Which field each value of a telegram's list is, by number, in order of sending; the end mark is 71. A refusal is the writer's, or 1 under
 // 830 bytes, and leaves fields as it was. Answers n.
@@ -63,15 +59,10 @@ fn name(values: &[u64], fields: &mut [u8])
     }
 }
 
-// The number of the field that is due in row k and holds v. Where a packet could begin, 255 is no packet but the end mark, a field of its own.
+// The number of the field that is due in row k and holds v.
 fn number(rows: &[u16; 213], numbers: &[u8; 213], k: usize, v: u64) -> u8
     requires { ⌜ InTable (now rows) k × (now numbers ≡ fieldNumbers) ⌝ }
     ensures { λ r. ⌜ r ≡ numberAt k v ⌝ }
 {
-    if act(rows, k) == END {
-        if v == 255 {
-            return MARK;
-        }
-    }
-    numbers[k]
+    table::named(act(rows, k), v, numbers[k])
 }

@@ -64,9 +64,5 @@ pub(crate) fn back(rows: &[u16; 213], k: usize) -> usize
     requires { ⌜ InTable (now rows) k × (act k ≡ 0) ⌝ }
     ensures { λ r. ⌜ r ≡ jump k ⌝ }
 {
-    let d = rest(rows, k) as usize;
-    if d == 0 {
-        return 0;
-    }
-    k + 1 - d
+    table::back(k, rest(rows, k))
 }
