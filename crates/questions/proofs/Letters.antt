@@ -8,7 +8,8 @@ use native.Mathlib.Omega.{arith}
 use borrow.Author.Tests.{eq-eqb, ne-eqb}
 use lib.ListN.{length, take, drop, getD, length-drop}
 use lib.Seq.{take-all}
-use Rattle.replies.specs.Replies.{noQuestion, bitsText, writeText}
+use Rattle.answer_text.specs.Texts.{noQuestion}
+use Rattle.replies.specs.Replies.{bitsText, writeText}
 use Rattle.questions.specs.Questions.{valuesIn, Counted, written, valuesBehind, bitsBehind, asked, replyTo}
 use Rattle.questions.specs.declared.Values.{Values}
 use Rattle.questions.specs.declared.Values.the-variants.{Count, Other}

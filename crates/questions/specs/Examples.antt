@@ -4,7 +4,8 @@ use mathlib.Core.Bool.{true, false}
 use mathlib.Core.List.{[], _∷_}
 use mathlib.Core.Option.{some, none}
 use Rattle.pieces.specs.Numbers.{digitsFrom}
-use Rattle.replies.specs.Replies.{noQuestion, bitsText}
+use Rattle.answer_text.specs.Texts.{noQuestion}
+use Rattle.replies.specs.Replies.{bitsText}
 use Rattle.questions.specs.Questions.{valuesIn, bitsBehind, replyTo}
 
 -- ` 7 010`, nothing, and of no more than one value ` 7 8`; a space behind, two between, no space, another character

@@ -7,7 +7,8 @@ use Prim.Native.Nat.{ℕ, zero, suc, _≤_}
 use lib.Dec.{eqb}
 use lib.ListN.{length, take, drop}
 use Rattle.pieces.specs.Numbers.{Found, digitsFrom, bounded}
-use Rattle.replies.specs.Replies.{noQuestion, bitsText, writeText}
+use Rattle.answer_text.specs.Texts.{noQuestion}
+use Rattle.replies.specs.Replies.{bitsText, writeText}
 use Rattle.questions.specs.declared.Values.{Values}
 use Rattle.questions.specs.declared.Values.the-variants.{Count, Other}
 

@@ -15,7 +15,7 @@ pub fn respond(line: &[u8], out: &mut [u8], q: Queue) -> Queue
     ensures { λ r. ⌜ Joins (replyTo (now (line .entry))) q (now (out .entry)) r (now (out .exit)) ⌝ }
 {
     if line.len() == 0 {
-        return replies::no_question(out, q);
+        return answer_text::no_question(out, q);
     }
     let letter = line[0];
     let rest = &line[1..];
@@ -28,7 +28,7 @@ pub fn respond(line: &[u8], out: &mut [u8], q: Queue) -> Queue
     if letter == b'w' {
         return of_values(rest, out, q);
     }
-    replies::no_question(out, q)
+    answer_text::no_question(out, q)
 }
 
 // Behind `r` and `n` stand a space and the bits, or nothing.
@@ -41,7 +41,7 @@ fn of_bits(rest: &[u8], normal: bool, out: &mut [u8], q: Queue) -> Queue
     if rest[0] == b' ' {
         return replies::of_bits(&rest[1..], normal, out, q);
     }
-    replies::no_question(out, q)
+    answer_text::no_question(out, q)
 }
 
 // Behind `w` stand the values.
@@ -51,7 +51,7 @@ fn of_values(rest: &[u8], out: &mut [u8], q: Queue) -> Queue
     let mut values = [0u64; 1000];
     match values_in(rest, &mut values) {
         Values::Count(n) => replies::of_values(&values[..n], out, q),
-        Values::Other => replies::no_question(out, q),
+        Values::Other => answer_text::no_question(out, q),
     }
 }
 
