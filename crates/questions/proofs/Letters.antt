@@ -2,16 +2,18 @@
 use mathlib.Core.Path.{_≡_, refl, sym, ap, _∙_}
 use mathlib.Core.Bool.{Bool, true, false}
 use mathlib.Core.List.{List, [], _∷_}
-use mathlib.Core.Option.{Option, some, none}
 use Prim.Native.Nat.{ℕ, _-_, _≤_}
 use native.Mathlib.Omega.{arith}
 use borrow.Author.Tests.{eq-eqb, ne-eqb}
 use lib.ListN.{length, take, drop, getD, length-drop}
 use lib.Seq.{take-all}
-use Rattle.replies.specs.Replies.{noQuestion, bitsText, writeText}
-use Rattle.questions.specs.Questions.{valuesIn, Counted, written, valuesBehind, bitsBehind, asked, replyTo}
-use Rattle.questions.specs.declared.Values.{Values}
-use Rattle.questions.specs.declared.Values.the-variants.{Count, Other}
+use Rattle.answer_text.specs.Texts.{noQuestion}
+use Rattle.replies.specs.Replies.{bitsText, writeText}
+use Rattle.questions.specs.Questions.{written, valuesBehind, bitsBehind, asked, replyTo}
+use Rattle.value_list.specs.Values.{valuesIn, Taken}
+use Rattle.value_list.specs.declared.Values.{Values}
+use Rattle.value_list.specs.declared.Values.the-variants.{Count, Other}
+use Rattle.value_list.proofs.Answers.{taken-whole, taken-other}
 
 -- the part from 1 to the end
 pub tail-is : (l : List ℕ) → take (length l - 1) (drop 1 l) ≡ drop 1 l
@@ -71,18 +73,16 @@ module _ (normal : Bool) where
 
 -- ---- behind `w`
 
-module _ (text values : List ℕ) (x : Values) (room : length values ≡ 1000) (h : Counted text values x) where
-  pub count-within : (n : ℕ) → x ≡ Count n → n ≤ length values
-  count-within n e = let g : Counted text values (Count n) = rw e at h in g .0
+module _ (text before : List ℕ) (x : Values) (after : List ℕ) (room : length before ≡ 1000) (h : Taken text before x after) where
+  pub count-within : (n : ℕ) → x ≡ Count n → n ≤ length after
+  count-within n e = taken-whole text before x after h n e .inside
 
-  pub values-some : (n : ℕ) → x ≡ Count n → writeText (take n values) ≡ valuesBehind text
+  of-room : written (valuesIn (length before) text) ≡ valuesBehind text
   unfolding valuesBehind
-  values-some n e =
-      let g : Counted text values (Count n) = rw e at h in
-      sym (ap (λ (k : ℕ). written (valuesIn k text)) (sym room) ∙ ap written (g .1))
+  of-room = ap (λ (k : ℕ). written (valuesIn k text)) room
+
+  pub values-some : (n : ℕ) → x ≡ Count n → writeText (take n after) ≡ valuesBehind text
+  values-some n e = sym (ap written (taken-whole text before x after h n e .values)) ∙ of-room
 
   pub values-none : x ≡ Other → noQuestion ≡ valuesBehind text
-  unfolding valuesBehind
-  values-none e =
-      let g : Counted text values Other = rw e at h in
-      sym (ap (λ (k : ℕ). written (valuesIn k text)) (sym room) ∙ ap written g)
+  values-none e = sym (ap written (taken-other text before x after h e)) ∙ of-room

@@ -1,3 +1,2 @@
--- What the functions of this crate stand on: values taken one behind the other, and lines by their letter.
-mod Taking
+-- What the functions of this crate stand on: lines by their letter.
 mod Letters

@@ -1,21 +1,15 @@
 // Questions to the library, one a line, and what is answered to them: `r` and bits, `n` and bits, `w` and decimal values.
 ghost use Rattle.queue.specs.Waiting.{Joins};
-ghost use Rattle.questions.specs.Questions.{replyTo, bitsBehind, valuesBehind, Counted};
-use pieces::Number;
+ghost use Rattle.questions.specs.Questions.{replyTo, bitsBehind, valuesBehind};
 use queue::Queue;
-
-// How many values a text has, or that it is none of values.
-pub enum Values {
-    Count(usize),
-    Other,
-}
+use value_list::Values;
 
 // Puts the answer to a line. A line that is no question is told so.
 pub fn respond(line: &[u8], out: &mut [u8], q: Queue) -> Queue
     ensures { λ r. ⌜ Joins (replyTo (now (line .entry))) q (now (out .entry)) r (now (out .exit)) ⌝ }
 {
     if line.len() == 0 {
-        return replies::no_question(out, q);
+        return answer_text::no_question(out, q);
     }
     let letter = line[0];
     let rest = &line[1..];
@@ -28,7 +22,7 @@ pub fn respond(line: &[u8], out: &mut [u8], q: Queue) -> Queue
     if letter == b'w' {
         return of_values(rest, out, q);
     }
-    replies::no_question(out, q)
+    answer_text::no_question(out, q)
 }
 
 // Behind `r` and `n` stand a space and the bits, or nothing.
@@ -41,7 +35,7 @@ fn of_bits(rest: &[u8], normal: bool, out: &mut [u8], q: Queue) -> Queue
     if rest[0] == b' ' {
         return replies::of_bits(&rest[1..], normal, out, q);
     }
-    replies::no_question(out, q)
+    answer_text::no_question(out, q)
 }
 
 // Behind `w` stand the values.
@@ -49,34 +43,8 @@ fn of_values(rest: &[u8], out: &mut [u8], q: Queue) -> Queue
     ensures { λ r. ⌜ Joins (valuesBehind (now (rest .entry))) q (now (out .entry)) r (now (out .exit)) ⌝ }
 {
     let mut values = [0u64; 1000];
-    match values_in(rest, &mut values) {
+    match value_list::values_in(rest, &mut values) {
         Values::Count(n) => replies::of_values(&values[..n], out, q),
-        Values::Other => replies::no_question(out, q),
+        Values::Other => answer_text::no_question(out, q),
     }
-}
-
-// Takes the values of a text, each with a space in front of it, into the front of what is lent.
-fn values_in(text: &[u8], values: &mut [u64]) -> Values
-    ensures { λ r. ⌜ Counted (now (text .entry)) (now (values .exit)) r ⌝ }
-{
-    let mut n = 0;
-    let mut at = 0;
-    while at < text.len() {
-        if n == values.len() {
-            return Values::Other;
-        }
-        if text[at] != b' ' {
-            return Values::Other;
-        }
-        let Number::Read(v, end) = parse::digits_at(text, at + 1) else {
-            return Values::Other;
-        };
-        if end == at + 1 {
-            return Values::Other;
-        }
-        values[n] = v;
-        n += 1;
-        at = end;
-    }
-    Values::Count(n)
 }

@@ -1,4 +1,3 @@
--- What the functions of this crate stand on: numbers one behind the other, and what reading, writing, normalising and packing leave, as text.
-mod Spaced
+-- What the functions of this crate stand on: what reading, writing, normalising and packing leave, as text.
 mod Telegrams
 mod Packs

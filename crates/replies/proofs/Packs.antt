@@ -7,12 +7,13 @@ use native.Mathlib.Omega.{arith}
 use borrow.Author.Tests.{le-leb, lt-leb}
 use lib.Dec.{leb}
 use lib.ListN.{length, take}
+use Rattle.answer_text.specs.Texts.{noQuestion}
 use Rattle.bits.specs.Bits.{bytesFor, bytesOf}
 use Rattle.packing.specs.Packing.{binary, bitsIn, Pack}
 use Rattle.packing.specs.declared.Packed.{Packed}
 use Rattle.packing.specs.declared.Packed.the-variants.{Bits, Other, Room}
 use Rattle.packing.proofs.Answers.{packed-whole, packed-other, packed-roomless}
-use Rattle.replies.specs.Replies.{noQuestion, readText, normalText, bitsText}
+use Rattle.replies.specs.Replies.{readText, normalText, bitsText}
 
 -- what the line asks
 abbrev asked : Bool → List ℕ → List ℕ

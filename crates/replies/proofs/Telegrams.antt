@@ -6,6 +6,7 @@ use native.Mathlib.Omega.{arith}
 use borrow.Author.Tests.{le-leb}
 use lib.ListN.{length, take, drop, length-append}
 use lib.Seq.{take-append-le, take-append-seam}
+use Rattle.answer_text.specs.Texts.{listed, sent, sentText}
 use Rattle.bits.specs.Bits.{bitsOf, bytesOf}
 use Rattle.bits.proofs.Bytes.{length-bitsOf, bitsOf-append, length-bytesOf, take-bitsOf-bytesOf}
 use Rattle.format.specs.Rules.{paper}
@@ -19,7 +20,7 @@ use Rattle.queue_text.specs.Texts.{refusalText}
 use Rattle.states.specs.Normaliser.{normalOf, normaliseInto, Normalise}
 use Rattle.states.specs.Reader.{checked, readInto, answerOf, valuesOver, Read}
 use Rattle.states.specs.Writer.{writeInto, sizeOf, bytesOver, Write}
-use Rattle.replies.specs.Replies.{listed, sent, valuesOr, bitsOr, readText, normalText, writeText, sentText}
+use Rattle.replies.specs.Replies.{valuesOr, bitsOr, readText, normalText, writeText}
 
 -- ---- bits
 

@@ -1,7 +1,6 @@
 // What reading, normalising and writing answer, as text.
-ghost use Rattle.bits.specs.Bits.{bitsOf};
 ghost use Rattle.queue.specs.Waiting.{Joins};
-ghost use Rattle.replies.specs.Replies.{noQuestion, spaced, listed, readText, normalText, writeText, sentText, bitsText};
+ghost use Rattle.replies.specs.Replies.{readText, normalText, writeText, bitsText};
 use format::Answer;
 use packing::Packed;
 use queue::Queue;
@@ -21,8 +20,8 @@ pub fn of_bits(line: &[u8], normal: bool, out: &mut [u8], q: Queue) -> Queue
             }
             read(t, n, out, q)
         }
-        Packed::Other => no_question(out, q),
-        Packed::Room => no_question(out, q),
+        Packed::Other => answer_text::no_question(out, q),
+        Packed::Room => answer_text::no_question(out, q),
     }
 }
 
@@ -30,16 +29,9 @@ pub fn of_bits(line: &[u8], normal: bool, out: &mut [u8], q: Queue) -> Queue
 pub fn of_values(values: &[u64], out: &mut [u8], q: Queue) -> Queue
     ensures { λ r. ⌜ Joins (writeText (now (values .entry))) q (now (out .entry)) r (now (out .exit)) ⌝ }
 {
-    let mut t = [0u8; 104];
-    let a = telegram::write(values, &mut t);
-    sent(&t, a, out, q)
-}
-
-// Puts the answer to a line that is no question.
-pub fn no_question(out: &mut [u8], q: Queue) -> Queue
-    ensures { λ r. ⌜ Joins noQuestion q (now (out .entry)) r (now (out .exit)) ⌝ }
-{
-    queue::say(out, q, b"not a question\n")
+    let mut bytes = [0u8; 104];
+    let a = telegram::write(values, &mut bytes);
+    answer_text::sent(&bytes, a, out, q)
 }
 
 // Puts the count and the values of a telegram, or its refusal.
@@ -48,32 +40,9 @@ fn read(s: &[u8], n: usize, out: &mut [u8], q: Queue) -> Queue
 {
     let mut run = [0u64; 830];
     match telegram::read(s, n, &mut run) {
-        Answer::Accepted(count) => listed(&run[..count], out, q),
+        Answer::Accepted(count) => answer_text::listed(&run[..count], out, q),
         Answer::Refused(r) => queue_text::refused(out, q, r),
     }
-}
-
-fn listed(run: &[u64], out: &mut [u8], q: Queue) -> Queue
-    ensures { λ r. ⌜ Joins (listed (now (run .entry))) q (now (out .entry)) r (now (out .exit)) ⌝ }
-{
-    let a = queue::say(out, q, b"ok ");
-    let b = queue_text::number(out, a, run.len() as u64);
-    let c = numbers(run, out, b);
-    queue::put(out, c, b'\n')
-}
-
-// Puts a space and a number for each value of a run.
-fn numbers(run: &[u64], out: &mut [u8], q: Queue) -> Queue
-    ensures { λ r. ⌜ Joins (spaced (now (run .entry))) q (now (out .entry)) r (now (out .exit)) ⌝ }
-{
-    let mut r = q;
-    let mut i = 0;
-    while i < run.len() {
-        let s = queue::put(out, r, b' ');
-        r = queue_text::number(out, s, run[i]);
-        i += 1;
-    }
-    r
 }
 
 fn normalise(s: &[u8], n: usize, out: &mut [u8], q: Queue) -> Queue
@@ -81,19 +50,5 @@ fn normalise(s: &[u8], n: usize, out: &mut [u8], q: Queue) -> Queue
 {
     let mut t = [0u8; 104];
     let a = telegram::normalise(s, n, &mut t);
-    sent(&t, a, out, q)
-}
-
-// Puts the bits of a telegram that was written or normalised, or its refusal.
-fn sent(t: &[u8], answer: Answer, out: &mut [u8], q: Queue) -> Queue
-    ensures { λ r. ⌜ Joins (sentText (bitsOf (now (t .entry))) answer) q (now (out .entry)) r (now (out .exit)) ⌝ }
-{
-    match answer {
-        Answer::Accepted(n) => {
-            let a = queue::say(out, q, b"ok ");
-            let b = queue_text::characters(out, a, t, n);
-            queue::put(out, b, b'\n')
-        }
-        Answer::Refused(r) => queue_text::refused(out, q, r),
-    }
+    answer_text::sent(&t, a, out, q)
 }

@@ -2,7 +2,8 @@
 use mathlib.Core.Path.{_≡_, refl}
 use mathlib.Core.Bool.{true, false}
 use mathlib.Core.List.{[], _∷_}
-use Rattle.replies.specs.Replies.{noQuestion, bitsText}
+use Rattle.answer_text.specs.Texts.{noQuestion}
+use Rattle.replies.specs.Replies.{bitsText}
 use Rattle.questions.specs.Questions.{replyTo, bitsBehind}
 use Rattle.vectors.specs.Told.{told}
 

@@ -4,7 +4,7 @@ use mathlib.Core.List.{List, []}
 use Prim.Native.Nat.{ℕ}
 use lib.Dec.{eqb}
 use lib.ListN.{length, take}
-use Rattle.replies.specs.Replies.{noQuestion}
+use Rattle.answer_text.specs.Texts.{noQuestion}
 use Rattle.questions.specs.Questions.{replyTo}
 
 -- what is put for a line of which so many characters are kept: of one that fills what is lent for it, more may be missing

@@ -61,7 +61,7 @@ fn answered(line: &[u8], input: Input, out: &mut [u8], q: Queue) -> Queue
     }
     let n = input.kept;
     if n == line.len() {
-        return replies::no_question(out, q);
+        return answer_text::no_question(out, q);
     }
     questions::respond(&line[..n], out, q)
 }

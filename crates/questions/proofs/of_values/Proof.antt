@@ -19,7 +19,7 @@ enum-known-n : tie.Need-enum-known-n
 enum-known-n c = search needs
 
 array-share-prefix-values : tie.Need-array-share-prefix-values
-array-share-prefix-values c = count-within (now (c .before .before .before .before .before .before .before .before .args .rest)) _ _ (omega arith) (c .before .before .before .before .values-in .ensures) _ (c .before .n .given .1)
+array-share-prefix-values c = count-within (now (c .before .before .before .before .before .before .before .before .args .rest)) _ _ _ (omega arith) (c .before .before .before .before .values-in .ensures) _ (c .before .n .given .1)
 
 slice-aggregate-of-values : tie.Need-slice-aggregate-of-values
 slice-aggregate-of-values c = sym (length-take-le _ _ (array-share-prefix-values (c .before)))
@@ -37,13 +37,13 @@ same-length : tie.Need-same-length
 same-length c = search needs
 
 returns : tie.Need-returns
-returns c = joins-as (values-some (now (c .before .before .before .before .before .before .before .before .before .before .before .before .before .args .rest)) _ _ (omega arith) (c .before .before .before .before .before .before .before .before .before .values-in .ensures) _ (c .before .before .before .before .before .before .n .given .1)) (c .before .before .of-values .ensures)
+returns c = joins-as (values-some (now (c .before .before .before .before .before .before .before .before .before .before .before .before .before .args .rest)) _ _ _ (omega arith) (c .before .before .before .before .before .before .before .before .before .values-in .ensures) _ (c .before .before .before .before .before .before .n .given .1)) (c .before .before .of-values .ensures)
 
 same-length-2 : tie.Need-same-length-2
 same-length-2 c = search needs
 
 returns-2 : tie.Need-returns-2
-returns-2 c = joins-as (values-none (now (c .before .before .before .before .before .before .before .before .before .before .before .args .rest)) _ _ (omega arith) (c .before .before .before .before .before .before .before .values-in .ensures) (c .before .before .before .before .enum-told .given .1)) (c .before .before .no-question .ensures)
+returns-2 c = joins-as (values-none (now (c .before .before .before .before .before .before .before .before .before .before .before .args .rest)) _ _ _ (omega arith) (c .before .before .before .before .before .before .before .values-in .ensures) (c .before .before .before .before .enum-told .given .1)) (c .before .before .no-question .ensures)
 
 pub of-values-spec : {M : Type 1} → statement M
 of-values-spec =

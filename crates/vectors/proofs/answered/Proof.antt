@@ -9,7 +9,7 @@ use borrow.Author.Tests.{eq-eqb, ne-eqb, not-true, not-false}
 use lib.ListN.{length, take}
 use lib.Seq.{length-take-le}
 use Rattle.queue.proofs.Joining.{joins-nothing, joins-as}
-use Rattle.replies.specs.Replies.{noQuestion}
+use Rattle.answer_text.specs.Texts.{noQuestion}
 use Rattle.questions.specs.Questions.{replyTo}
 use Rattle.vectors.specs.Told.{told}
 use borrow.Author.Needs.{needs}

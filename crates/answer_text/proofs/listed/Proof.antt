@@ -1,8 +1,8 @@
--- `replies::listed` meets its contract: its pieces join one behind the other. Assumes nothing.
+-- `answer_text::listed` meets its contract: its pieces join one behind the other. Assumes nothing.
 use Rattle.queue.proofs.Joining.{joins-then}
 use borrow.Author.Needs.{needs}
-use Rattle.replies.proofs.listed.Statement.{statement}
-use Rattle.replies.proofs.listed.Tie as tie
+use Rattle.answer_text.proofs.listed.Statement.{statement}
+use Rattle.answer_text.proofs.listed.Tie as tie
 
 slice-aggregate-say : tie.Need-slice-aggregate-say
 slice-aggregate-say c = search needs

@@ -1,7 +1,7 @@
--- `replies::no_question` meets its contract: it is the piece that joins. Assumes nothing.
+-- `answer_text::no_question` meets its contract: it is the piece that joins. Assumes nothing.
 use borrow.Author.Needs.{needs}
-use Rattle.replies.proofs.no_question.Statement.{statement}
-use Rattle.replies.proofs.no_question.Tie as tie
+use Rattle.answer_text.proofs.no_question.Statement.{statement}
+use Rattle.answer_text.proofs.no_question.Tie as tie
 
 slice-aggregate-say : tie.Need-slice-aggregate-say
 slice-aggregate-say c = search needs

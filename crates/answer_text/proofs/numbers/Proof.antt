@@ -1,4 +1,4 @@
--- `replies::numbers` meets its contract. The loop's invariant: the first i values have joined. The measure is what is left of the run.
+-- `answer_text::numbers` meets its contract. The loop's invariant: the first i values have joined. The measure is what is left of the run.
 -- Assumes nothing.
 use Prim.Native.Nat.{_≤_, _-_}
 use native.Mathlib.Omega.{arith}
@@ -7,10 +7,10 @@ use lib.ListN.{length, take}
 use borrow.Author.Needs.{needs}
 use Rattle.queue.specs.Waiting.{Joins}
 use Rattle.queue.proofs.Joining.{joins-length}
-use Rattle.replies.specs.Replies.{spaced}
-use Rattle.replies.proofs.Spaced.{spaced-nothing, spaced-more, spaced-all}
-use Rattle.replies.proofs.numbers.Statement.{statement}
-use Rattle.replies.proofs.numbers.Tie as tie
+use Rattle.answer_text.specs.Texts.{spaced}
+use Rattle.answer_text.proofs.Spaced.{spaced-nothing, spaced-more, spaced-all}
+use Rattle.answer_text.proofs.numbers.Statement.{statement}
+use Rattle.answer_text.proofs.numbers.Tie as tie
 
 abbrev Inv-loop : tie.InvT-loop
 Inv-loop run out₀ r₀ i₀ out r i = (i ≤ length run) × Joins (spaced (take i run)) r₀ out₀ r out

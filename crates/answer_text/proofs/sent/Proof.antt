@@ -1,9 +1,9 @@
--- `replies::sent` meets its contract: its pieces join one behind the other. Assumes nothing.
+-- `answer_text::sent` meets its contract: its pieces join one behind the other. Assumes nothing.
 use Rattle.queue.proofs.Joining.{joins-then}
-use Rattle.replies.specs.Replies.{sentText}
+use Rattle.answer_text.specs.Texts.{sentText}
 use borrow.Author.Needs.{needs}
-use Rattle.replies.proofs.sent.Statement.{statement}
-use Rattle.replies.proofs.sent.Tie as tie
+use Rattle.answer_text.proofs.sent.Statement.{statement}
+use Rattle.answer_text.proofs.sent.Tie as tie
 
 enum-known-answer : tie.Need-enum-known-answer
 enum-known-answer c = search needs

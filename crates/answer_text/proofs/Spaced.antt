@@ -10,7 +10,7 @@ use Rattle.queue_text.specs.Texts.{space}
 use Rattle.queue.specs.Waiting.{Joins}
 use Rattle.queue.specs.declared.Queue.{Queue}
 use Rattle.queue.proofs.Joining.{joins-nothing, joins-then, joins-as}
-use Rattle.replies.specs.Replies.{spaced}
+use Rattle.answer_text.specs.Texts.{spaced}
 
 spaced-last : (vs : List ℕ) (v : ℕ) → spaced (vs ++ (v ∷ [])) ≡ spaced vs ++ (space ++ decimal v)
 unfolding spaced

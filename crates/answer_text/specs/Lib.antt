@@ -1,0 +1,3 @@
+-- How answers read, in reading order.
+pub mod Texts
+pub mod Examples

@@ -1,0 +1,3 @@
+-- Values as text, in reading order.
+pub mod Values
+pub mod Examples
