@@ -1,15 +1,14 @@
 -- Steps from line to line, in the shapes of the functions that take them; and that what is kept lies within the line. Assumes nothing.
-use mathlib.Core.Path.{_≡_, refl, sym, ap, _∙_, subst}
+use mathlib.Core.Path.{_≡_, refl, sym, ap, _∙_}
 use mathlib.Core.Bool.{Bool, true, false, cond}
 use mathlib.Core.List.{List, [], _++_}
-use mathlib.Core.Logic.{⊎-elim}
 use Prim.Native.Nat.{ℕ, _+_, _-_, _≤_, _<_, min}
 use native.Mathlib.Nat.{lt-of-not-le}
 use native.Mathlib.Decide.{decLe}
 use native.Mathlib.Omega.{arith}
 use borrow.Author.Tests.{lt-ltb, le-ltb, eq-eqb, ne-eqb}
 use lib.ListN.{length, take, drop, length-take, length-drop, length-append, drop-of-length-le}
-use lib.Seq.{take-all, length-take-le}
+use lib.Seq.{length-take-le}
 use Rattle.blocks.specs.Ends.{upToEnd, ends}
 use Rattle.blocks.specs.Reading.{left, held, fitting, over, inHand, stop, takenOn, TakesOn, stopped, fresh, arrivedAt, arrivedLine, Arrives, Arrival, Steps, Held, Keeps}
 use Rattle.blocks.specs.declared.Filled.{Filled}

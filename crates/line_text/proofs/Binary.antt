@@ -1,18 +1,13 @@
 -- The characters of a bit string, put one by one. Assumes nothing.
-use mathlib.Core.Path.{_≡_, refl, sym, ap, _∙_}
-use mathlib.Core.List.{List, [], _∷_, _++_}
-use Prim.Native.Nat.{ℕ, zero, suc, _+_, _*_, _≤_, _<_}
+use mathlib.Core.Path.{_≡_, sym, ap, _∙_}
+use mathlib.Core.List.{List, _++_}
+use Prim.Native.Nat.{ℕ, suc, _+_, _*_, _≤_, _<_}
 use native.Mathlib.Numerals.{add-one}
 use native.Mathlib.Omega.{arith}
-use borrow.Author.Tests.{eq-eqb, ne-eqb, le-leb, lt-leb}
-use lib.ListN.{length, take, drop, getD, set, length-map}
+use borrow.Author.Tests.{le-leb, lt-leb}
+use lib.ListN.{length, take, drop, getD, set}
 use lib.Seq.{drop-cons, set-at, append-snoc, length-take-le}
-use Rattle.bits.specs.Bits.{valueOf, bitsOf}
-use Rattle.bits.specs.Take.{fieldBits, takeAt}
-use Rattle.bits.specs.declared.Cursor.{Cursor}
-use Rattle.bits.specs.declared.Taken.the-variants.{Field, Short}
-use Rattle.bits.proofs.Bytes.{length-bitsOf}
-use Rattle.bits.proofs.Fields.{taken, take-whole}
+use Rattle.bits.specs.Bits.{bitsOf}
 use Rattle.pieces.specs.Pieces.{Grown}
 use Rattle.pieces.proofs.Starts.{grown-none}
 use Rattle.packing.specs.Packing.{characterOf, characters}

@@ -1,18 +1,13 @@
 -- The bits of bytes, put as characters. Assumes nothing.
-use mathlib.Core.Path.{_≡_, refl, sym, ap, _∙_, subst}
+use mathlib.Core.Path.{_≡_, sym, ap, _∙_, subst}
 use mathlib.Core.List.{List, [], _∷_, _++_}
-use Prim.Native.Nat.{ℕ, zero, suc, _+_, _*_, _≤_, _<_}
+use Prim.Native.Nat.{ℕ, _+_, _*_, _≤_, _<_}
 use native.Mathlib.Numerals.{add-one}
 use native.Mathlib.Omega.{arith}
-use borrow.Author.Tests.{eq-eqb, ne-eqb}
 use lib.ListN.{length, take, getD}
-use lib.Seq.{drop-cons, take-all}
-use Rattle.bits.specs.Bits.{valueOf, bitsOf}
-use Rattle.bits.specs.Take.{fieldBits, takeAt}
-use Rattle.bits.specs.declared.Cursor.{Cursor}
-use Rattle.bits.specs.declared.Taken.the-variants.{Field, Short}
+use lib.Seq.{take-all}
+use Rattle.bits.specs.Bits.{bitsOf}
 use Rattle.bits.proofs.Bytes.{length-bitsOf}
-use Rattle.bits.proofs.Fields.{taken, take-whole}
 use Rattle.packing.specs.Packing.{characterOf, characters}
 use Rattle.packing.proofs.Characters.{characters-suc}
 use Rattle.queue.specs.Waiting.{Joins}

@@ -1,7 +1,6 @@
 -- A worked example of the definitions, computed by the checker. Assumes nothing.
 use mathlib.Core.Path.{_≡_, refl}
-use mathlib.Core.List.{List, [], _∷_}
-use Prim.Native.Nat.{ℕ}
+use mathlib.Core.List.{[], _∷_}
 use Rattle.format.specs.declared.Kind.the-variants.{Trailing}
 use Rattle.pieces.specs.Numbers.{digitsOf}
 use Rattle.queue_text.specs.Texts.{refusalText}

@@ -12,7 +12,6 @@ use lib.Arith.{lt-of-le-ne}
 use lib.Dec.{eqb, leb}
 use lib.ListN.{getD}
 use Rattle.format.specs.Fields.{Field, fields, NID-RADIO, NID-PACKET, END}
-use Rattle.format.specs.Fields.Rule.{radio}
 use Rattle.format.specs.Packets.{Items}
 use Rattle.format.specs.Packets.Items.{end, nest, send, sendIf, sendEither, sendTimes}
 use Rattle.format.specs.Rules.{State, Terms, Next, due, field, named, ruleOf, radioFrom, broken, unless, verdict, step}

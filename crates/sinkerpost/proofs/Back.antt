@@ -1,7 +1,6 @@
 -- What C is answered says it all: 0 just where the telegram is accepted, and otherwise the refusal's number and its place. Assumes nothing.
-use mathlib.Core.List.{List}
 use mathlib.Core.Path.{_≡_, refl}
-use Prim.Native.Nat.{ℕ, _+_, _*_, _/_, _%_, _≤_}
+use Prim.Native.Nat.{ℕ, _/_, _%_, _≤_}
 use native.Mathlib.Omega.{arith}
 use Rattle.format.specs.Refusals.{numberOf, codeOf}
 use Rattle.format.specs.declared.Answer.{Answer}

@@ -1,7 +1,7 @@
 -- Whatever is checked or normalised, the place of a refusal is at most 830. Assumes nothing.
 use mathlib.Core.Bool.{Bool, true, false, cond}
 use mathlib.Core.List.{List}
-use mathlib.Core.Path.{_≡_, refl, sym, subst}
+use mathlib.Core.Path.{_≡_, refl}
 use Prim.Native.Nat.{ℕ, _≤_}
 use native.Mathlib.Omega.{arith}
 use lib.Dec.{leb}
@@ -12,7 +12,6 @@ use Rattle.bits.proofs.Bytes.{length-bitsOf, below-bitsOf, below-take}
 use Rattle.format.specs.Rules.{paper}
 use Rattle.format.specs.Telegrams.{Entry, Result, values, bitCount, read}
 use Rattle.format.specs.Telegrams.Result.{accepted, refused}
-use Rattle.format.specs.declared.Answer.{Answer}
 use Rattle.format.specs.declared.Kind.the-variants.{Room, Size, Padding}
 use Rattle.laws.proofs.Bounds.{read-placed}
 use Rattle.states.specs.Reader.{sized, clear, atOnce, checked, answered, answerOf}

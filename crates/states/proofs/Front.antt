@@ -1,23 +1,20 @@
 -- The header's answer, by the tests that `short::header` makes; and that the state which is answered is that behind a header which keeps every
 -- rule. Assumes nothing.
-use mathlib.Core.Path.{_≡_, refl, sym, ap, _∙_}
+use mathlib.Core.Path.{_≡_, refl, ap, _∙_}
 use mathlib.Core.List.{List}
 use mathlib.Core.Bool.{Bool, true, false, cond, _&&_}
-use Prim.Native.Nat.{ℕ, _+_, _/_, _<_, _≤_}
+use Prim.Native.Nat.{ℕ, _/_, _<_, _≤_}
 use native.Mathlib.Omega.{arith}
 use borrow.Author.Tests.{eq-eqb, ne-eqb, le-leb, lt-leb, leb-true, eqb-true}
 use lib.Dec.{eqb, leb}
 use Rattle.bits.specs.Take.{takeAt, skipAt}
 use Rattle.bits.specs.declared.Cursor.{Cursor}
-use Rattle.bits.specs.declared.Skipped.{Skipped}
 use Rattle.bits.specs.declared.Skipped.the-variants as skipping
 use Rattle.bits.specs.declared.Taken.{Taken}
 use Rattle.bits.specs.declared.Taken.the-variants.{Field, Short}
 use Rattle.bits.proofs.Fields.{taken, skipped}
 use Rattle.states.specs.Heads.{pigIn, totalIn, dupIn, behind, Started, frontBy, frontOf}
-use Rattle.states.specs.declared.Begun.{Begun}
 use Rattle.states.specs.declared.Begun.the-variants.{To, Not}
-use Rattle.states.specs.declared.State.{State}
 
 module _ (s : List ℕ) (n : ℕ) where
   -- 25 bits are not there

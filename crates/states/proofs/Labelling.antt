@@ -1,18 +1,13 @@
 -- The second run of `label`: the number that it stores for each value is that of the entry's field. And `label` by the tests that it makes.
 -- Assumes nothing.
 use mathlib.Core.Path.{_≡_, refl, sym, ap, _∙_}
-use mathlib.Core.Bool.{Bool, true, false, cond, _&&_}
 use mathlib.Core.List.{List, _∷_, _++_}
-use mathlib.Core.Logic.{_⊎_, inl, inr}
 use Prim.Native.Nat.{ℕ, _+_, _≤_, _<_}
 use native.Mathlib.Nat.{add-zero}
 use native.Mathlib.Omega.{arith}
-use borrow.Author.Tests.{eq-eqb, ne-eqb, le-leb, lt-leb}
-use lib.Dec.{eqb}
+use borrow.Author.Tests.{le-leb, lt-leb}
 use lib.ListN.{length, drop, getD, set, length-set}
-use Rattle.format.specs.Fields.{END}
 use Rattle.format.specs.Rules.{paper, named}
-use Rattle.format.specs.Table.{act, fieldAt}
 use Rattle.format.specs.Telegrams.{Entry, bitCount, write}
 use Rattle.format.specs.Telegrams.Result.{accepted}
 use Rattle.format.specs.declared.Kind.the-variants.{Room}

@@ -1,6 +1,5 @@
 -- `noting::place` meets its contract: a case for each thing that a refusal points at. Assumes nothing.
-use mathlib.Core.Path.{_≡_, sym, _∙_}
-use Prim.Native.Nat.{_%_, _^_}
+use mathlib.Core.Path.{sym}
 use native.Mathlib.Nat.{mod-eq-of-lt}
 use borrow.Author.Needs.{needs}
 use Rattle.format.specs.Rules.{spotAt, placeFrom}

@@ -1,5 +1,5 @@
 -- `questions::of_values` meets its contract: the values in hand are the text's, or it has none. Assumes nothing.
-use mathlib.Core.Path.{refl, sym}
+use mathlib.Core.Path.{sym}
 use denote.Ref.{now}
 use native.Mathlib.Omega.{arith}
 use lib.Seq.{length-take-le}

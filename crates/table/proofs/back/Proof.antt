@@ -1,5 +1,4 @@
 -- `table::back` meets its contract: none at a packet's end, nor where the group would begin before the first row. Assumes nothing.
-use mathlib.Core.Path.{_∙_}
 use native.Mathlib.Omega.{arith}
 use borrow.Author.Needs.{needs}
 use borrow.Author.Tests.{eq-eqb, ne-eqb}

@@ -1,5 +1,4 @@
 -- `telegram::machine::entered` meets its contract: what is to be sent, what is noted and what is tested, one after the other. Assumes nothing.
-use mathlib.Core.Path.{sym, _∙_}
 use native.Mathlib.Omega.{arith}
 use borrow.Author.Needs.{needs}
 use Rattle.states.proofs.Stepping.{entered-mark, entered-on, width-in}
