@@ -3,16 +3,15 @@ use mathlib.Core.Bool.{Bool, true, false, not, _&&_, _||_}
 use mathlib.Core.List.{List, [], _∷_, _++_, reverse, reverse-cons}
 use mathlib.Core.Path.{_≡_, refl, sym, ap, _∙_}
 use Prim.Native.Nat.{ℕ, _+_, _-_}
-use borrow.Author.Tests.{eq-eqb, ne-eqb}
 use lib.Dec.{eqb}
 use Rattle.format.specs.Rules.{Earlier, clash, among, collidesAmong}
 
 -- whether a packet collides, where it is no ETCS-44
-pub told : (i d : ℕ) (l : List Earlier) (b : Bool) → (i ≡ 44 → ⊥) → among clash i d l ≡ b → b ≡ collidesAmong clash i d l
-told i d l b n e = simp (ne-eqb i 44 n, e)
+pub told : (i d : ℕ) (l : List Earlier) (b : Bool) → eqb i 44 ≡ false → among clash i d l ≡ b → b ≡ collidesAmong clash i d l
+told i d l b n e = simp (n, e)
 
-pub none-told : (i d : ℕ) (l : List Earlier) → i ≡ 44 → false ≡ collidesAmong clash i d l
-none-told i d l e = simp (eq-eqb i 44 e)
+pub none-told : (i d : ℕ) (l : List Earlier) → eqb i 44 ≡ true → false ≡ collidesAmong clash i d l
+none-told i d l e = simp e
 
 -- among packets, and then others
 among-append : (collide : ℕ → ℕ → Bool) (i d : ℕ) (l m : List Earlier)

@@ -14,6 +14,7 @@ use Rattle.states.specs.Machine.{Noted, senseOf, contextOf, levelOf, unr
 use Rattle.states.specs.Normaliser.{viewIs}
 use Rattle.states.specs.Reader.{sized}
 use Rattle.states.specs.Lookback.{packetsBefore}
+use Rattle.states.specs.Writer.{fitting}
 use Rattle.states.specs.declared.Level.{Level}
 use Rattle.states.specs.declared.Level.the-variants.{Header, Packet, User}
 use Rattle.states.specs.declared.State.{State}
@@ -24,14 +25,20 @@ use Rattle.format.specs.Rules as rules
 pub sized-once : (s : List ℕ) (n : ℕ) → Once (λ r. r ≡ sized s n)
 sized-once s n = equation-once (sized s n)
 
+pub fitting-once : (v w end : ℕ) → Once (λ r. r ≡ fitting v w end)
+fitting-once v w end = equation-once (fitting v w end)
+
 pub header-once : (s : List ℕ) (n : ℕ) → Once (λ r. r ≡ frontOf s n)
 header-once s n = equation-once (frontOf s n)
 
 pub collides-once : (s : List ℕ) (stop id dir : ℕ) → Once (λ r. r ≡ collidesAmong clash id dir (packetsBefore s stop))
 collides-once s stop id dir = equation-once (collidesAmong clash id dir (packetsBefore s stop))
 
-pub meets-once : (name way id dir : ℕ) → Once (λ r. r ≡ (eqb id name && clash dir way))
-meets-once name way id dir = equation-once (eqb id name && clash dir way)
+pub exempt-once : (id : ℕ) → Once (λ r. r ≡ eqb id 44)
+exempt-once id = equation-once (eqb id 44)
+
+pub row-meets-once : (a v w id dir : ℕ) → Once (λ r. r ≡ (eqb a 0 && (eqb id v && clash dir w)))
+row-meets-once a v w id dir = equation-once (eqb a 0 && (eqb id v && clash dir w))
 
 pub unread-once : (told : Bool) (a r : ℕ) → Once (λ x. x ≡ unread told a r)
 unread-once told a r = equation-once (unread told a r)

@@ -12,6 +12,7 @@ use crate::rows::act;
 use crate::rows::code;
 use crate::todo::advance;
 use lookback::collides_in_bits;
+use lookback::exempt;
 use lookback::row_meets;
 use states::Ahead;
 use states::Level;
@@ -74,7 +75,7 @@ fn collides_in_values(rows: &[u16; 213], values: &[u64], n: usize, id: u64, dir:
     requires { ⌜ (now rows ≡ words) × (n ≤ length (now values)) ⌝ }
     ensures { λ r. ⌜ r ≡ collidesAmong clash id dir (packetsAmong (now (values .entry)) n) ⌝ }
 {
-    if id == 44 {
+    if exempt(id) {
         return false;
     }
     if n == 0 {

@@ -24,6 +24,7 @@ pub fn values_in(text: &[u8], values: &mut [u64]) -> Values
     }
 }
 
+// How many values a text has that has nothing else, if there is room for so many.
 fn count(text: &[u8], room: usize) -> Values
     ensures { λ r. ⌜ r ≡ countOf (valuesIn room (now (text .entry))) ⌝ }
 {
@@ -42,6 +43,7 @@ fn count(text: &[u8], room: usize) -> Values
     Values::Count(n)
 }
 
+// Stores the values of a text that was counted.
 fn store(text: &[u8], values: &mut [u64])
     ensures { λ r. ⌜ Stored (now (text .entry)) (now (values .entry)) (now (values .exit)) ⌝ }
 {

@@ -14,8 +14,11 @@ Inv-loop s stop id dir c₀ c = Hopping s stop id dir (c .at)
 abbrev μ-loop : tie.MeasureT-loop
 μ-loop s stop id dir c₀ c = stop - c .at
 
+exempt-requires : tie.Need-exempt-requires Inv-loop μ-loop
+exempt-requires c κs = search needs
+
 returns : tie.Need-returns Inv-loop μ-loop
-returns c = none-told (c .before .before .args .id) _ _ (c .if1 .taken)
+returns c = none-told (c .before .before .before .args .id) _ _ (sym (c .before .exempt .ensures) ∙ c .if1 .taken)
 
 loop-holds : tie.Need-loop-holds Inv-loop μ-loop
 loop-holds c = hopping-first _ _ _ _
@@ -30,14 +33,14 @@ enum-told : tie.Need-enum-told Inv-loop μ-loop
 enum-told c = search needs
 
 returns-2 : tie.Need-returns-2 Inv-loop μ-loop
-returns-2 c = told (c .before .before .before .before .before .before .args .id) (c .before .before .before .before .before .before .args .dir) _ _ (c .before .before .before .before .if1 .left) (hops-end (c .before .before .before .loop .inv) (c .before .before .take .ensures) (c .enum-told .given .1))
+returns-2 c = told (c .before .before .before .before .before .before .before .args .id) (c .before .before .before .before .before .before .before .args .dir) _ _ (sym (c .before .before .before .before .before .exempt .ensures) ∙ c .before .before .before .before .if1 .left) (hops-end (c .before .before .before .loop .inv) (c .before .before .take .ensures) (c .enum-told .given .1))
 
 meets-requires : tie.Need-meets-requires Inv-loop μ-loop
 meets-requires c κs = search needs
 
 returns-3 : tie.Need-returns-3 Inv-loop μ-loop
 returns-3 c =
-    told (c .before .before .before .before .before .before .before .before .before .args .id) (c .before .before .before .before .before .before .before .before .before .args .dir) _ _ (c .before .before .before .before .before .before .before .if1 .left)
+    told (c .before .before .before .before .before .before .before .before .before .before .args .id) (c .before .before .before .before .before .before .before .before .before .before .args .dir) _ _ (sym (c .before .before .before .before .before .before .before .before .exempt .ensures) ∙ c .before .before .before .before .before .before .before .if1 .left)
     (hops-met (c .before .before .before .before .before .before .loop .inv) (c .before .before .before .before .before .take .ensures) (c .before .before .before .a .given .1) (sym (c .before .meets .ensures) ∙ c .if2 .taken))
 
 behind-head-requires : tie.Need-behind-head-requires Inv-loop μ-loop
@@ -54,7 +57,7 @@ enum-told-2 c = search needs
 
 returns-4 : tie.Need-returns-4 Inv-loop μ-loop
 returns-4 c =
-    told (c .before .before .before .before .before .before .before .before .before .before .before .before .before .args .id) (c .before .before .before .before .before .before .before .before .before .before .before .before .before .args .dir) _ _ (c .before .before .before .before .before .before .before .before .before .before .before .if1 .left)
+    told (c .before .before .before .before .before .before .before .before .before .before .before .before .before .before .args .id) (c .before .before .before .before .before .before .before .before .before .before .before .before .before .before .args .dir) _ _ (sym (c .before .before .before .before .before .before .before .before .before .before .before .before .exempt .ensures) ∙ c .before .before .before .before .before .before .before .before .before .before .before .if1 .left)
     (hops-past (c .before .before .before .before .before .before .before .before .before .before .loop .inv) (c .before .before .before .before .before .before .before .before .before .take .ensures) (c .before .before .before .before .before .before .before .a .given .1) (sym (c .before .before .before .before .before .meets .ensures) ∙ c .before .before .before .before .if2 .left)
     (sym (rw (c .before .before .before .behind-head .ensures) at (c .before .before .skip .ensures)) ∙ c .enum-told2 .given .1))
 
@@ -74,6 +77,7 @@ collides-in-bits-spec =
     (tie.spec
     Inv-loop
     μ-loop
+    exempt-requires
     returns
     loop-holds
     take-requires
