@@ -33,7 +33,8 @@ pub record Write (p : Terms) (vs : List ℕ) (before : List ℕ) (answer : Answe
   pub answers : answer ≡ sizeOf (writeInto p vs (length before))
   pub contents : after ≡ bytesOver (writeInto p vs (length before)) before
 
--- a value for a field of w bits that ends at the bit end. "At one field: 5, 12, 13"
+-- a value for a field of w bits that ends at the bit end. "12: .. a value does not fit its field's width"; "13: .. the field would end past bit 830"; "At one
+-- field: 5, 12, 13"
 abbrev pub fitting : ℕ → ℕ → ℕ → Verdict
 fitting v w end = cond (ltb v (2 ^ w)) (cond (leb end 830) Fine (Broken Full)) (Broken Wide)
 

@@ -1,12 +1,18 @@
 // The packets as rows, each packed into one number: what the machine goes by.
 ghost use mathlib.Core.Path.{_≡_};
-ghost use Rattle.format.specs.Table.{words, codeBy, freeBy, lowBy, highBy, leapBy, backBy};
+ghost use Rattle.format.specs.Table.{words, codeBy, freeBy};
 
+mod jumps;
 mod numbers;
+mod ranges;
 
+pub use jumps::back;
+pub use jumps::leap;
 pub use numbers::fields;
 pub use numbers::named;
 pub use numbers::number;
+pub use ranges::high;
+pub use ranges::low;
 
 // From the lowest bit: 3 bits of the act, 7 of the field's width and 6 of the rest: the number of the field's rule, or how far the row
 // jumps. Nobody has to read them: the checker computes that they are what the items of the packets give. Whoever checks a telegram has this
@@ -262,61 +268,4 @@ fn free(a: u32, r: u32) -> u32
         return r;
     }
     0
-}
-
-// The ends of the range of the field in a row whose rest is r.
-pub fn low(r: u32) -> u64
-    ensures { λ x. ⌜ x ≡ lowBy r ⌝ }
-{
-    if r < 48 {
-        return 0;
-    }
-    if r < 52 {
-        return 1;
-    }
-    if r == 62 {
-        return 16;
-    }
-    0
-}
-
-pub fn high(r: u32) -> u64
-    ensures { λ x. ⌜ x ≡ highBy r ⌝ }
-{
-    if r < 10 {
-        return 0;
-    }
-    if r < 52 {
-        return (r % 16) as u64;
-    }
-    if r == 62 {
-        return 16;
-    }
-    0
-}
-
-// How many rows ahead the field in a row whose act is a and whose rest is r leads, where it steers and is not followed by the next row. The field that is
-// left out unless its switch is 1 is one row, so that the rest of its switch is free for the rule of the switch.
-pub fn leap(a: u32, r: u32) -> usize
-    ensures { λ x. ⌜ x ≡ leapBy a r ⌝ }
-{
-    if a == 3 {
-        return 2;
-    }
-    r as usize
-}
-
-// The row that repeats the group which ends with row k, whose rest is r: so many rows back, counted from the next. At a packet's end the rest is 0, and so
-// is this.
-pub fn back(k: usize, r: u32) -> usize
-    ensures { λ x. ⌜ x ≡ backBy k r ⌝ }
-{
-    let d = r as usize;
-    if d == 0 {
-        return 0;
-    }
-    if k < d {
-        return 0;
-    }
-    k - d + 1
 }

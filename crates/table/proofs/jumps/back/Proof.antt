@@ -2,8 +2,8 @@
 use native.Mathlib.Omega.{arith}
 use borrow.Author.Needs.{needs}
 use borrow.Author.Tests.{eq-eqb, ne-eqb}
-use Rattle.table.proofs.back.Statement.{statement}
-use Rattle.table.proofs.back.Tie as tie
+use Rattle.table.proofs.jumps.back.Statement.{statement}
+use Rattle.table.proofs.jumps.back.Tie as tie
 
 returns : tie.Need-returns
 returns c = rw (eq-eqb (c .before .args .r) 0 (c .if1 .taken))

@@ -1,7 +1,7 @@
 -- `table::leap` meets its contract: its test is the definition's. Assumes nothing.
 use borrow.Author.Tests.{eq-eqb, ne-eqb}
-use Rattle.table.proofs.leap.Statement.{statement}
-use Rattle.table.proofs.leap.Tie as tie
+use Rattle.table.proofs.jumps.leap.Statement.{statement}
+use Rattle.table.proofs.jumps.leap.Tie as tie
 
 returns : tie.Need-returns
 returns c = simp (eq-eqb (c .before .args .a) 3 (c .if1 .taken))

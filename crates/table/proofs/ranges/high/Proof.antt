@@ -1,8 +1,8 @@
 -- `table::high` meets its contract: each test is one of the definition's. Assumes nothing.
 use borrow.Author.Needs.{needs}
 use borrow.Author.Tests.{eq-eqb, ne-eqb, lt-ltb, le-ltb}
-use Rattle.table.proofs.high.Statement.{statement}
-use Rattle.table.proofs.high.Tie as tie
+use Rattle.table.proofs.ranges.high.Statement.{statement}
+use Rattle.table.proofs.ranges.high.Tie as tie
 
 returns : tie.Need-returns
 returns c = simp (lt-ltb (c .before .args .r) 10 (c .if1 .taken))

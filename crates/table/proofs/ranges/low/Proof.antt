@@ -1,7 +1,7 @@
 -- `table::low` meets its contract: each test is one of the definition's. Assumes nothing.
 use borrow.Author.Tests.{eq-eqb, ne-eqb, lt-ltb, le-ltb}
-use Rattle.table.proofs.low.Statement.{statement}
-use Rattle.table.proofs.low.Tie as tie
+use Rattle.table.proofs.ranges.low.Statement.{statement}
+use Rattle.table.proofs.ranges.low.Tie as tie
 
 returns : tie.Need-returns
 returns c = simp (lt-ltb (c .before .args .r) 48 (c .if1 .taken))
