@@ -1,45 +1,42 @@
 -- Demand 2: "What is read and written again is the same telegram; what is written and read again is the same list of values".
 -- Definitions alone.
-use mathlib.Core.Bool.{cond}
 use mathlib.Core.List.{List, _++_}
 use mathlib.Core.Path.{_≡_}
 use Prim.Native.Nat.{ℕ}
-use lib.Dec.{leb}
 use lib.ListN.{length, drop}
 use Rattle.format.specs.Rules.{Terms}
 use Rattle.format.specs.Telegrams.{Result}
 use Rattle.format.specs.Telegrams.Result.{accepted, refused}
-use Rattle.format.specs.declared.Kind.the-variants.{Room}
 use Rattle.format.specs.declared.Answer.{Answer}
-use Rattle.format.specs.declared.Answer.the-variants.{Accepted, Refused}
-use Rattle.states.specs.Reader.{readInto, valuesOver}
+use Rattle.states.specs.Reader.{roomed, answered, readInto, valuesOver}
 use Rattle.states.specs.Writer.{writeInto, bytesOver}
 
--- ---- the second of the two, by the first one's result
+-- what the second of the two leaves: what the first began with, and behind it what was there; "A refusal .. changes no output"
+abbrev pub restored : List ℕ → Result → List ℕ → List ℕ
+restored same (accepted es) before = same ++ drop (length same) before
+restored same (refused r) before = before
 
--- what it answers: the first one's refusal as it stands; otherwise it accepts, and gives the size of what it was all made of, unless
--- what it is lent is shorter than it needs. "1: output shorter than .."; "The place is 0 for 1, 2, 3"
-abbrev pub againOf : Result → ℕ → ℕ → ℕ → Answer
-againOf (accepted es) need room size = cond (leb need room) (Accepted size) (Refused (record { kind = Room; place = 0 }))
-againOf (refused r) need room size = Refused r
+-- ---- read, and written again
 
--- what it leaves: the same as at the start, and behind it what was there; "A refusal .. changes no output"
-abbrev pub againOver : Result → ℕ → List ℕ → List ℕ → List ℕ
-againOver (accepted es) need same before = cond (leb need (length before)) (same ++ drop (length same) before) before
-againOver (refused r) need same before = before
+-- lent a run of so many values, and so many bytes: "1: output shorter than 830 values or 104 bytes", whichever it is, and then the reader's refusals.
+-- The writer has none left
+abbrev pub rewriteInto : Terms → List ℕ → ℕ → ℕ → ℕ → Result
+rewriteInto p s n run out = roomed 104 out (readInto p s n run)
 
--- ---- the promises
-
--- "What is read and written again is the same telegram": the promise of `rewritten`. The bytes s and their n come back, in at least 104
--- lent bytes; the run holds what reading leaves there.
+-- the promise of `rewritten`: n and the bytes s come back, and the run holds what reading leaves there
 pub record Rewritten (p : Terms) (s : List ℕ) (n : ℕ) (run out : List ℕ) (answer : Answer) (run-after out-after : List ℕ) : Type 0 where
-  pub answers : answer ≡ againOf (readInto p s n (length run)) 104 (length out) n
-  pub values : run-after ≡ valuesOver (readInto p s n (length run)) run
-  pub telegram : out-after ≡ againOver (readInto p s n (length run)) 104 s out
+  pub answers : answer ≡ answered (λ es. n) (rewriteInto p s n (length run) (length out))
+  pub values : run-after ≡ valuesOver (rewriteInto p s n (length run) (length out)) run
+  pub telegram : out-after ≡ restored s (rewriteInto p s n (length run) (length out)) out
 
--- "what is written and read again is the same list of values": the promise of `reread`. The values vs and their count come back, in a
--- lent run of at least 830; the bytes hold what writing leaves there.
+-- ---- written, and read again
+
+-- lent so many bytes, and a run of so many values: 1 for either, and then the writer's refusals. The reader has none left
+abbrev pub rereadInto : Terms → List ℕ → ℕ → ℕ → Result
+rereadInto p vs out run = roomed 830 run (writeInto p vs out)
+
+-- the promise of `reread`: the values vs and their count come back, and the bytes hold what writing leaves there
 pub record Reread (p : Terms) (vs out run : List ℕ) (answer : Answer) (out-after run-after : List ℕ) : Type 0 where
-  pub answers : answer ≡ againOf (writeInto p vs (length out)) 830 (length run) (length vs)
-  pub telegram : out-after ≡ bytesOver (writeInto p vs (length out)) out
-  pub values : run-after ≡ againOver (writeInto p vs (length out)) 830 vs run
+  pub answers : answer ≡ answered (λ es. length vs) (rereadInto p vs (length out) (length run))
+  pub telegram : out-after ≡ bytesOver (rereadInto p vs (length out) (length run)) out
+  pub values : run-after ≡ restored vs (rereadInto p vs (length out) (length run)) run

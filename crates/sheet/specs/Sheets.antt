@@ -14,7 +14,7 @@ use Rattle.format.specs.declared.Kind.the-variants.{Room}
 use Rattle.format.specs.declared.Refusal.{Refusal}
 use Rattle.bits.specs.Bits.{bytesOf}
 use Rattle.states.specs.Labels.{numbers}
-use Rattle.states.specs.Reader.{atOnce, checked}
+use Rattle.states.specs.Reader.{roomed, checked}
 use Rattle.sheet.specs.Rows.{sheetText}
 use Rattle.sheet.specs.Reading.{Rows, sheetIn}
 use Rattle.sheet.specs.Reading.Rows.{rows, bad}
@@ -39,7 +39,7 @@ valueOf (Row k) = k
 
 -- "1 for a text output under 65,536 bytes .. in export the reader's"
 unfoldable pub exported : Terms → List ℕ → ℕ → ℕ → Result
-exported p s n room = cond (leb 65536 room) (checked p s n) (atOnce Room)
+exported p s n room = roomed 65536 room (checked p s n)
 
 abbrev pub lengthOf : Result → Reply
 lengthOf (accepted es) = Done (length (sheetText es))

@@ -37,6 +37,7 @@ pub mod Checking
 pub mod Writing
 pub mod Normalising
 pub mod Answers
+pub mod Rooms
 pub mod Pointing
 pub mod Changing
 pub mod Accepting

@@ -1,17 +1,14 @@
 -- Which field each value of a list is: what the function answers that says it, and what the lent run of numbers then holds. Definitions alone.
 use mathlib.Core.Path.{_≡_}
-use mathlib.Core.Bool.{cond}
 use mathlib.Core.List.{List, [], _∷_, _++_}
 use Prim.Native.Nat.{ℕ, _≤_}
-use lib.Dec.{leb}
 use lib.ListN.{length, drop}
 use Rattle.format.specs.Rules.{Terms, paper}
 use Rattle.format.specs.Table.{act, fieldAt, numberBy}
 use Rattle.format.specs.Telegrams.{Entry, Result, Telegram, all, values, write}
 use Rattle.format.specs.Telegrams.Result.{accepted, refused}
-use Rattle.format.specs.declared.Kind.the-variants.{Room}
 use Rattle.format.specs.declared.Answer.{Answer}
-use Rattle.states.specs.Reader.{atOnce}
+use Rattle.states.specs.Reader.{roomed}
 use Rattle.states.specs.Writer.{sizeOf}
 
 -- the number of each entry's field, in order of sending; the end mark's is END's
@@ -23,7 +20,7 @@ numbers es = all numbersIn es
 
 -- the writer without its bytes, lent a run of so many numbers; a telegram has at most 830 fields
 unfoldable pub labelInto : Terms → List ℕ → ℕ → Result
-labelInto p vs room = cond (leb 830 room) (write p vs) (atOnce Room)
+labelInto p vs room = roomed 830 room (write p vs)
 
 -- the numbers in front, and behind them what was there; a refusal changes nothing
 abbrev pub numbersOver : Result → List ℕ → List ℕ

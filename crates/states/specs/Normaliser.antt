@@ -12,12 +12,11 @@ use Rattle.format.specs.Rules.{Terms, paper}
 use Rattle.format.specs.Table.{fieldAt}
 use Rattle.format.specs.Telegrams.{Entry, Result, Telegram, bits}
 use Rattle.format.specs.Telegrams.Result.{accepted, refused}
-use Rattle.format.specs.declared.Kind.the-variants.{Room}
 use Rattle.format.specs.declared.Answer.{Answer}
 use Rattle.distance.specs.Distance.{numberOf, inDecimetres, inSteps}
 use Rattle.distance.specs.declared.Scale.{Scale}
 use Rattle.distance.specs.declared.Told.the-variants.{Whole, Not}
-use Rattle.states.specs.Reader.{clear, checked, atOnce}
+use Rattle.states.specs.Reader.{clear, checked, roomed}
 use Rattle.states.specs.Writer.{sizeOf, bytesOver}
 use Rattle.states.specs.declared.View.{View}
 use Rattle.states.specs.declared.View.the-variants.{Kept, Scales, Measures}
@@ -34,7 +33,7 @@ normalOf (refused r) = refused r
 
 -- the normaliser, lent so many bytes. "1: output shorter than .. 104 bytes"
 unfoldable pub normaliseInto : Terms → List ℕ → ℕ → ℕ → Result
-normaliseInto p s n room = cond (leb 104 room) (normalOf (checked p s n)) (atOnce Room)
+normaliseInto p s n room = roomed 104 room (normalOf (checked p s n))
 
 -- the promise of `normalise`: n, and the bytes of the normal form in front of what was there
 pub record Normalise (p : Terms) (s : List ℕ) (n : ℕ) (before : List ℕ) (answer : Answer) (after : List ℕ) : Type 0 where

@@ -26,13 +26,17 @@ clear s n = eqb (valueOf (drop n (bitsOf s))) 0
 abbrev pub atOnce : Kind → Result
 atOnce k = refused (record { kind = k; place = 0 })
 
+-- what comes of a call that is lent room for so many and needs so many. "1: output shorter than .."; "Order: 1, then .."
+abbrev pub roomed : ℕ → ℕ → Result → Result
+roomed need room r = cond (leb need room) r (atOnce Room)
+
 -- the check of bytes and n. "Order: .. 2, 3, then field by field, the first broken rule wins"
 unfoldable pub checked : Terms → List ℕ → ℕ → Result
 checked p s n = cond (sized s n) (cond (clear s n) (read p (take n (bitsOf s))) (atOnce Padding)) (atOnce Size)
 
 -- the reader, lent a run of so many values. "1: output shorter than 830 values"
 unfoldable pub readInto : Terms → List ℕ → ℕ → ℕ → Result
-readInto p s n room = cond (leb 830 room) (checked p s n) (atOnce Room)
+readInto p s n room = roomed 830 room (checked p s n)
 
 -- an answer: a count of an accepted telegram, or the refusal as it stands
 abbrev pub answered : (List Entry → ℕ) → Result → Answer

@@ -9,15 +9,15 @@ use Rattle.bits.specs.Bits.{bytesOf}
 use Rattle.format.specs.Rules.{Terms, paper}
 use Rattle.format.specs.Telegrams.{Entry, Result, Telegram, bits, bitCount, values, write}
 use Rattle.format.specs.Telegrams.Result.{accepted, refused}
-use Rattle.format.specs.declared.Kind.the-variants.{Room, Wide, Full}
+use Rattle.format.specs.declared.Kind.the-variants.{Wide, Full}
 use Rattle.format.specs.declared.Answer.{Answer}
-use Rattle.states.specs.Reader.{atOnce, answered}
+use Rattle.states.specs.Reader.{roomed, answered}
 use Rattle.states.specs.declared.Verdict.{Verdict}
 use Rattle.states.specs.declared.Verdict.the-variants.{Fine, Broken}
 
 -- the writer, lent so many bytes. "1: output shorter than .. 104 bytes"
 unfoldable pub writeInto : Terms → List ℕ → ℕ → Result
-writeInto p vs room = cond (leb 104 room) (write p vs) (atOnce Room)
+writeInto p vs room = roomed 104 room (write p vs)
 
 -- "Gives n"
 abbrev pub sizeOf : Result → Answer

@@ -4,9 +4,14 @@ use borrow.Author.Needs.{needs}
 use denote.Ref.{now}
 use lib.Seq.{length-take-le}
 use Rattle.format.specs.Rules.{paper}
-use Rattle.again.proofs.Twice.{write-refused, lent-bytes, rereads}
+use Rattle.again.proofs.Twice.{no-room-to-read, write-refused, lent-bytes, rereads}
 use Rattle.again.proofs.reread.Statement.{statement}
 use Rattle.again.proofs.reread.Tie as tie
+
+returns : tie.Need-returns
+returns c =
+    let a = c .before .before .before .before .args in
+    no-room-to-read paper (now (a .values)) (now (a .out)) (now (a .run)) (c .if1 .taken)
 
 write-requires : tie.Need-write-requires
 write-requires c κs = search needs
@@ -20,10 +25,10 @@ enum-told c = search needs
 same-length : tie.Need-same-length
 same-length c = search needs
 
-returns : tie.Need-returns
-returns c =
-    let a = c .before .before .before .before .before .before .before .before .before .args in
-    write-refused paper (now (a .values)) (now (a .out)) (now (a .run)) _ (c .before .before .before .before .write .ensures) (c .enum-told .given .1)
+returns-2 : tie.Need-returns-2
+returns-2 c =
+    let a = c .before .before .before .before .before .before .before .before .before .before .args in
+    write-refused paper (now (a .values)) (now (a .out)) (now (a .run)) _ (c .before .before .before .before .before .before .if1 .left) (c .before .before .before .before .write .ensures) (c .enum-told .given .1)
 
 bytes-for-requires : tie.Need-bytes-for-requires
 bytes-for-requires c κs = search needs
@@ -37,10 +42,10 @@ same-length-2 c = search needs
 same-length-3 : tie.Need-same-length-3
 same-length-3 c = search needs
 
-returns-2 : tie.Need-returns-2
-returns-2 c =
-    let a = c .before .before .before .before .before .before .before .before .before .before .before .before .before .before .before .before .args in
-    rereads paper (now (a .values)) (now (a .out)) (now (a .run)) _ (c .before .before .before .before .before .before .before .before .before .before .before .write .ensures) (c .before .before .before .before .before .before .before .a .given .1)
+returns-3 : tie.Need-returns-3
+returns-3 c =
+    let a = c .before .before .before .before .before .before .before .before .before .before .before .before .before .before .before .before .before .args in
+    rereads paper (now (a .values)) (now (a .out)) (now (a .run)) _ (c .before .before .before .before .before .before .before .before .before .before .before .before .before .if1 .left) (c .before .before .before .before .before .before .before .before .before .before .before .write .ensures) (c .before .before .before .before .before .before .before .a .given .1)
     (c .before .before .before .before .before .bytes-for .ensures)
     (c .before .before .read .ensures)
 
@@ -48,30 +53,31 @@ returns-2 c =
 
 slice-reshare-prefix-read : tie.Need-slice-reshare-prefix-read
 slice-reshare-prefix-read c =
-    let a = c .before .before .before .before .before .before .before .before .before .before .before .args in
+    let a = c .before .before .before .before .before .before .before .before .before .before .before .before .args in
     rw (c .bytes-for .ensures)
-    (lent-bytes paper (now (a .values)) (now (a .out)) (now (a .run)) _ (c .before .before .before .before .before .before .write .ensures) (c .before .before .a .given .1))
+    (lent-bytes paper (now (a .values)) (now (a .out)) (now (a .run)) _ (c .before .before .before .before .before .before .before .before .if1 .left) (c .before .before .before .before .before .before .write .ensures) (c .before .before .a .given .1))
 
 slice-aggregate-read : tie.Need-slice-aggregate-read
 slice-aggregate-read c =
-    let a = c .before .before .before .before .before .before .before .before .before .before .before .before .args in
+    let a = c .before .before .before .before .before .before .before .before .before .before .before .before .before .args in
     sym (length-take-le _ _
     (rw (c .before .bytes-for .ensures)
-    (lent-bytes paper (now (a .values)) (now (a .out)) (now (a .run)) _ (c .before .before .before .before .before .before .before .write .ensures) (c .before .before .before .a .given .1))))
+    (lent-bytes paper (now (a .values)) (now (a .out)) (now (a .run)) _ (c .before .before .before .before .before .before .before .before .before .if1 .left) (c .before .before .before .before .before .before .before .write .ensures) (c .before .before .before .a .given .1))))
 
 pub reread-spec : {M : Type 1} → statement M
 reread-spec =
     tie.close
     (tie.spec
+    returns
     write-requires
     enum-known-a
     enum-told
     same-length
-    returns
+    returns-2
     bytes-for-requires
     slice-reshare-prefix-read
     slice-aggregate-read
     read-requires
     same-length-2
     same-length-3
-    returns-2)
+    returns-3)
