@@ -1,3 +1,4 @@
--- What the code stands on, and that its promises determine it.
+-- Demand 3, by the promises of `telegram` alone.
 pub mod Forms
+pub mod Pairs
 pub mod Once

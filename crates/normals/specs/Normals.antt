@@ -3,15 +3,17 @@
 use mathlib.Core.Bool.{Bool, true, false, cond, _&&_}
 use mathlib.Core.List.{List, [], _∷_}
 use mathlib.Core.Path.{_≡_}
-use Prim.Native.Nat.{ℕ}
+use Prim.Native.Nat.{ℕ, _≤_}
 use lib.Dec.{eqb, leb}
 use lib.ListN.{length}
+use Rattle.format.specs.Normal.{normal}
 use Rattle.format.specs.Rules.{Terms}
-use Rattle.format.specs.Telegrams.{Result, bits}
+use Rattle.format.specs.Telegrams.{Entry, Result, bits}
 use Rattle.format.specs.Telegrams.Result.{accepted, refused}
 use Rattle.format.specs.declared.Kind.the-variants.{Room}
+use Rattle.format.specs.declared.Refusal.{Refusal}
 use Rattle.format.specs.declared.Answer.{Answer}
-use Rattle.format.specs.declared.Answer.the-variants.{Accepted, Refused}
+use Rattle.states.specs.Reader.{checked, roomed, answered}
 use Rattle.states.specs.Writer.{bytesOver}
 use Rattle.states.specs.Normaliser.{normaliseInto}
 use Rattle.normals.specs.declared.Alike.{Alike}
@@ -19,23 +21,36 @@ use Rattle.normals.specs.declared.Alike.the-variants.{Same, Other, First
 
 -- ---- normalised, and normalised again
 
--- what the second answers: the first one's refusal as it stands; otherwise it accepts, with the n that came in, unless it is lent fewer
--- than 104 bytes. "1: output shorter than .."; "The place is 0 for 1, 2, 3"
-abbrev pub againOf : Result → ℕ → ℕ → Answer
-againOf (accepted es) room n = cond (leb 104 room) (Accepted n) (Refused (record { kind = Room; place = 0 }))
-againOf (refused r) room n = Refused r
+-- lent so many bytes for each: "1: output shorter than .. 104 bytes" for either, and then the reader's refusals
+abbrev pub renormaliseInto : Terms → List ℕ → ℕ → ℕ → ℕ → Result
+renormaliseInto p s n x y = roomed 104 y (normaliseInto p s n x)
 
--- what it leaves: what the first left, in at least 104 lent bytes
-abbrev pub againIn : Result → List ℕ → List ℕ
-againIn r before = cond (leb 104 (length before)) (bytesOver r before) before
-
--- the promise of `renormalised`: the same normal form in front of what x held and of what y held, and the n that came in
+-- the promise of `renormalised`: n comes back, with the same normal form in front of what x held and of what y held
 pub record Renormalised (p : Terms) (s : List ℕ) (n : ℕ) (x y : List ℕ) (answer : Answer) (x-after y-after : List ℕ) : Type 0 where
-  pub answers : answer ≡ againOf (normaliseInto p s n (length x)) (length y) n
-  pub once : x-after ≡ bytesOver (normaliseInto p s n (length x)) x
-  pub twice : y-after ≡ againIn (normaliseInto p s n (length x)) y
+  pub answers : answer ≡ answered (λ es. n) (renormaliseInto p s n (length x) (length y))
+  pub once : x-after ≡ bytesOver (renormaliseInto p s n (length x) (length y)) x
+  pub twice : y-after ≡ bytesOver (renormaliseInto p s n (length x) (length y)) y
 
--- ---- two normal forms compared
+-- ---- two telegrams compared
+
+-- what comes of two telegrams: both are accepted, or one of them is refused
+pub data Pair : Type 0 where
+  both : List Entry → List Entry → Pair
+  first second : Refusal → Pair
+
+-- the first comes first
+abbrev pub pairOf : Result → Result → Pair
+pairOf (accepted es) (accepted fs) = both es fs
+pairOf (accepted es) (refused r) = second r
+pairOf (refused r) b = first r
+
+-- "The place is 0 for 1, 2, 3"
+abbrev pub noRoom : Refusal
+noRoom = record { kind = Room; place = 0 }
+
+-- lent so many bytes for each normal form. "Order: 1, then .."
+abbrev pub pairInto : Terms → List ℕ → ℕ → List ℕ → ℕ → ℕ → ℕ → Pair
+pairInto p s n t m x y = cond (leb 104 x) (cond (leb 104 y) (pairOf (checked p s n) (checked p t m)) (second noRoom)) (first noRoom)
 
 abbrev pub same : List ℕ → List ℕ → Bool
 same [] [] = true
@@ -43,19 +58,31 @@ same [] (c ∷ cs) = false
 same (b ∷ bs) [] = false
 same (b ∷ bs) (c ∷ cs) = eqb b c && same bs cs
 
--- by the two normal forms, or their refusals
-abbrev pub alike : Result → Result → Alike
-alike (accepted es) (accepted fs) = cond (same (bits es) (bits fs)) Same Other
-alike (accepted es) (refused r) = Second r
-alike (refused r) b = First r
+-- whether the two normal forms have the same bits, or which telegram is refused
+abbrev pub alike : Pair → Alike
+alike (both es fs) = cond (same (bits (normal es)) (bits (normal fs))) Same Other
+alike (first r) = First r
+alike (second r) = Second r
 
--- what the second leaves; nothing, where the first is refused
-abbrev pub afterFirst : Result → Result → List ℕ → List ℕ
-afterFirst (accepted es) b before = bytesOver b before
-afterFirst (refused r) b before = before
+-- the normal form of each in front of what was there; "A refusal .. changes no output", not of the other one either
+abbrev pub firstOver : Pair → List ℕ → List ℕ
+firstOver (both es fs) before = bytesOver (accepted (normal es)) before
+firstOver (first r) before = before
+firstOver (second r) before = before
+
+abbrev pub secondOver : Pair → List ℕ → List ℕ
+secondOver (both es fs) before = bytesOver (accepted (normal fs)) before
+secondOver (first r) before = before
+secondOver (second r) before = before
 
 -- the promise of `says_same`
 pub record SaysSame (p : Terms) (s : List ℕ) (n : ℕ) (t : List ℕ) (m : ℕ) (x y : List ℕ) (answer : Alike) (x-after y-after : List ℕ) : Type 0 where
-  pub answers : answer ≡ alike (normaliseInto p s n (length x)) (normaliseInto p t m (length y))
-  pub first : x-after ≡ bytesOver (normaliseInto p s n (length x)) x
-  pub second : y-after ≡ afterFirst (normaliseInto p s n (length x)) (normaliseInto p t m (length y)) y
+  pub answers : answer ≡ alike (pairInto p s n t m (length x) (length y))
+  pub first : x-after ≡ firstOver (pairInto p s n t m (length x) (length y)) x
+  pub second : y-after ≡ secondOver (pairInto p s n t m (length x) (length y)) y
+
+-- what `compared` goes by: the telegram is accepted, and there is room for its normal form
+pub record Ready (p : Terms) (s : List ℕ) (n : ℕ) (x : List ℕ) : Type 0 where
+  pub entries : List Entry
+  pub accepts : checked p s n ≡ accepted entries
+  pub room : 104 ≤ length x
