@@ -1,0 +1,63 @@
+// What a round trip answers and leaves, as text.
+use format::Answer;
+use libc::STDOUT_FILENO;
+
+pub(crate) fn say(text: &[u8]) {
+    io::write_all(STDOUT_FILENO, text);
+}
+
+pub(crate) fn number(n: u64) {
+    io::print_decimal(STDOUT_FILENO, n);
+}
+
+// The name of a row: of how many bits or values, and how many are lent of each of the two.
+pub(crate) fn sizes(name: &[u8], n: usize, first: usize, second: usize) {
+    say(name);
+    number(n as u64);
+    say(b", lent ");
+    number(first as u64);
+    say(b" and ");
+    number(second as u64);
+    say(b":");
+}
+
+pub(crate) fn answer(a: Answer) {
+    match a {
+        Answer::Accepted(n) => {
+            say(b" ok ");
+            number(n as u64);
+        }
+        Answer::Refused(r) => {
+            say(b" refused ");
+            number(table::number(r.kind));
+            say(b" ");
+            number(r.place as u64);
+        }
+    }
+    say(b"\n");
+}
+
+// The values that are not those that were lent, each behind its place.
+pub(crate) fn print_run(run: &[u64]) {
+    let mut i = 0;
+    while i < run.len() {
+        if run[i] != 9999 {
+            say(b" ");
+            number(i as u64);
+            say(b"=");
+            number(run[i]);
+        }
+        i += 1;
+    }
+    say(b"\n");
+}
+
+pub(crate) fn print_bytes(s: &[u8]) {
+    let mut i = 0;
+    while i < s.len() {
+        say(b" ");
+        io::print_hex(STDOUT_FILENO, s[i] as u64, 2);
+        i += 1;
+    }
+    say(b"\n");
+}
