@@ -28,8 +28,9 @@ pub(crate) fn answer(a: Answer) {
             number(n as u64);
         }
         Answer::Refused(r) => {
+            let kind = r.kind;
             say(b" refused ");
-            number(table::number(r.kind));
+            number(table::number(kind));
             say(b" ");
             number(r.place as u64);
         }
@@ -41,15 +42,20 @@ pub(crate) fn answer(a: Answer) {
 pub(crate) fn print_run(run: &[u64]) {
     let mut i = 0;
     while i < run.len() {
-        if run[i] != 9999 {
-            say(b" ");
-            number(i as u64);
-            say(b"=");
-            number(run[i]);
-        }
+        print_value(i as u64, run[i]);
         i += 1;
     }
     say(b"\n");
+}
+
+fn print_value(i: u64, v: u64) {
+    if v == 9999 {
+        return;
+    }
+    say(b" ");
+    number(i);
+    say(b"=");
+    number(v);
 }
 
 pub(crate) fn print_bytes(s: &[u8]) {
