@@ -4,10 +4,10 @@ mod show;
 
 use format::Answer;
 use normals::Alike;
+use show::alike;
 use show::answer;
 use show::print_bytes;
 use show::print_run;
-use show::say;
 use show::sizes;
 use word64::lower;
 
@@ -118,18 +118,7 @@ fn compare_row(s: &[u8], n: usize, t: &[u8], m: usize, first: usize, second: usi
     let mut x = [BYTE; 106];
     let mut y = [BYTE; 106];
     sizes(b"says_same of ", n, first, second);
-    match compared(s, n, t, m, &mut x, first, &mut y, second) {
-        Alike::Same => say(b" same\n"),
-        Alike::Other => say(b" other\n"),
-        Alike::First(r) => {
-            say(b" first");
-            answer(Answer::Refused(r));
-        }
-        Alike::Second(r) => {
-            say(b" second");
-            answer(Answer::Refused(r));
-        }
-    }
+    alike(compared(s, n, t, m, &mut x, first, &mut y, second));
     print_bytes(&x);
     print_bytes(&y);
 }

@@ -1,6 +1,7 @@
 // What a round trip answers and leaves, as text.
 use format::Answer;
 use libc::STDOUT_FILENO;
+use normals::Alike;
 
 pub(crate) fn say(text: &[u8]) {
     io::write_all(STDOUT_FILENO, text);
@@ -36,6 +37,21 @@ pub(crate) fn answer(a: Answer) {
         }
     }
     say(b"\n");
+}
+
+pub(crate) fn alike(a: Alike) {
+    match a {
+        Alike::Same => say(b" same\n"),
+        Alike::Other => say(b" other\n"),
+        Alike::First(r) => {
+            say(b" first");
+            answer(Answer::Refused(r));
+        }
+        Alike::Second(r) => {
+            say(b" second");
+            answer(Answer::Refused(r));
+        }
+    }
 }
 
 // The values that are not those that were lent, each behind its place.
