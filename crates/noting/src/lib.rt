@@ -8,6 +8,8 @@ ghost use Rattle.format.specs.Rules as rules;
 ghost use Rattle.states.specs.Machine.{Noted, contextOf, levelOf};
 use format::Kind;
 use format::Spot;
+use packets::heads::INNER_L_PACKET;
+use packets::heads::OUTER_L_PACKET;
 use states::Level;
 use states::State;
 use states::codes::DIRECTION;
@@ -130,16 +132,16 @@ fn since(at: usize, from: usize) -> u64
 
 // ---- a refusal
 
-// The bit where what a refusal points at begins, found at the field that is due, which ends at the bit end. An L_PACKET stands behind NID_PACKET 8 and
-// Q_DIR 2, or behind NID_XUSER 9 and Q_DIR 2. A packet of a telegram begins before bit 830; any other number is answered too, as the machine counts.
+// The bit where what a refusal points at begins, found at the field that is due, which ends at the bit end. A packet of a telegram begins
+// before bit 830; any other number is answered too, as the machine counts.
 pub fn place(kind: Kind, s: State, end: usize) -> usize
     ensures { λ r. ⌜ ((l : List Earlier) → r ≡ placeFrom kind (s .at) end (contextOf l s) % 2 ^ 64) ⌝ }
 {
     match spot(kind, s, end) {
         Spot::Due => s.at,
         Spot::Behind => end,
-        Spot::Outer => wrapping_add_usize(s.start, 10),
-        Spot::Inner => wrapping_add_usize(s.userstart, 11),
+        Spot::Outer => wrapping_add_usize(s.start, OUTER_L_PACKET),
+        Spot::Inner => wrapping_add_usize(s.userstart, INNER_L_PACKET),
     }
 }
 

@@ -1,6 +1,9 @@
 // The kinds of packets. Each keeps its identifier, the bits of its head and the row at which its fields begin with the kind.
 ghost use mathlib.Core.Path.{_≡_};
 ghost use Rattle.format.specs.Kinds.{etcsStart, ctcsStart, startsAt};
+
+pub mod heads;
+
 use format::Start;
 
 // The packet that an NID_PACKET begins.
@@ -166,6 +169,9 @@ impl National {
     pub const HEAD: usize = 23;
 
     const ROW: usize = 85;
+
+    // The row in which the CTCS packet is due, behind those of Q_DIR and L_PACKET. No other kind has one.
+    pub const INNER_ROW: usize = Self::ROW + 2;
 
     pub fn new() -> Self
         ensures { λ r. ⌜ r .start ≡ startsAt 85 23 ⌝ }
@@ -347,7 +353,7 @@ pub struct Default {
 impl Default {
     pub const ID: u64 = 254;
 
-    pub const HEAD: usize = 23;
+    pub const HEAD: usize = 23; // head A, and no field behind it
 
     const ROW: usize = 166;
 

@@ -1,5 +1,4 @@
-// What stands in front of a packet, taken as one field: its NID_PACKET, Q_DIR and L_PACKET, which are 23 bits; and a CTCS packet's NID_XUSER, Q_DIR
-// and L_PACKET, which are 24.
+// What stands in front of a packet, taken as one field: its NID_PACKET, Q_DIR and L_PACKET; and a CTCS packet's NID_XUSER, Q_DIR and L_PACKET.
 ghost use mathlib.Core.Path.{_≡_};
 ghost use Rattle.format.specs.Table.{words};
 ghost use Rattle.states.specs.Heads.{Headed, Inward, Led};
@@ -7,14 +6,14 @@ use crate::rows::act;
 use bits::Cursor;
 use bits::Taken;
 use lookback::collides_in_bits;
+use packets::National;
+use packets::heads::INNER_HEAD;
+use packets::heads::OUTER_HEAD;
 use states::Begun;
 use states::Level;
 use states::State;
 use states::Todo;
 use states::codes::END;
-
-// The row of an ETCS-44 in which its CTCS packet is due: no other packet has one.
-const CARRIER: usize = 87;
 
 // The head that is due, if one is: of a packet, or of the CTCS packet inside one.
 pub(crate) fn leading(rows: &[u16; 213], s: &[u8], n: usize, st: State) -> Begun
@@ -25,7 +24,7 @@ pub(crate) fn leading(rows: &[u16; 213], s: &[u8], n: usize, st: State) -> Begun
     if t.node == 0 {
         return head(rows, s, n, st);
     }
-    if t.node == CARRIER {
+    if t.node == National::INNER_ROW {
         return inner(rows, s, n, st);
     }
     Begun::Not
@@ -38,7 +37,7 @@ fn head(rows: &[u16; 213], s: &[u8], n: usize, st: State) -> Begun
     ensures { λ r. ⌜ Headed (now (s .entry)) n st r ⌝ }
 {
     let c = Cursor { at: st.at };
-    let Taken::Field(a, next) = c.take(s, n, 23) else {
+    let Taken::Field(a, next) = c.take(s, n, OUTER_HEAD) else {
         return Begun::Not;
     };
     let id = a / 32768;
@@ -82,7 +81,7 @@ fn inner(rows: &[u16; 213], s: &[u8], n: usize, st: State) -> Begun
     ensures { λ r. ⌜ Inward (now (s .entry)) n st r ⌝ }
 {
     let c = Cursor { at: st.at };
-    let Taken::Field(a, next) = c.take(s, n, 24) else {
+    let Taken::Field(a, next) = c.take(s, n, INNER_HEAD) else {
         return Begun::Not;
     };
     let id = a / 32768;

@@ -15,8 +15,8 @@ use format::Kind;
 use states::Ahead;
 use states::Todo;
 
-// Which field each value of a telegram's list is, by number, in order of sending; the end mark is 71. A refusal is the writer's, or 1 under
-// 830 bytes, and leaves fields as it was. Answers n.
+// Which field each value of a telegram's list is, by number, in order of sending; the end mark is 71. `names::append_name` gives the name for a number.
+// A refusal is the writer's, or 1 under 830 bytes, and leaves fields as it was. Answers n.
 pub fn label(values: &[u64], fields: &mut [u8]) -> Answer
     ensures { λ r. ⌜ Label paper (now (values .entry)) (now (fields .entry)) r (now (fields .exit)) ⌝ }
 {

@@ -8,52 +8,41 @@ use Rattle.packets.proofs.Choice.{ctcs-none}
 use Rattle.packets.proofs.ctcs.Statement.{statement}
 use Rattle.packets.proofs.ctcs.Tie as tie
 
--- src/lib.rt:39:25
 new-requires : tie.Need-new-requires
 new-requires c κs = search needs
 
--- src/lib.rt:40:28
 new-requires-2 : tie.Need-new-requires-2
 new-requires-2 c κs = search needs
 
--- src/lib.rt:41:26
 new-requires-3 : tie.Need-new-requires-3
 new-requires-3 c κs = search needs
 
--- src/lib.rt:42:24
 new-requires-4 : tie.Need-new-requires-4
 new-requires-4 c κs = search needs
 
--- src/lib.rt:43:25
 new-requires-5 : tie.Need-new-requires-5
 new-requires-5 c κs = search needs
 
--- src/lib.rt:35:1
 returns : tie.Need-returns
 unfolding ctcsStart
 returns c = c .before .new .ensures ∙ sym (ap ctcsStart (c .before .before .match .keys1))
 
--- src/lib.rt:35:1
 returns-2 : tie.Need-returns-2
 unfolding ctcsStart
 returns-2 c = c .before .new2 .ensures ∙ sym (ap ctcsStart (c .before .before .match .keys2))
 
--- src/lib.rt:35:1
 returns-3 : tie.Need-returns-3
 unfolding ctcsStart
 returns-3 c = c .before .new3 .ensures ∙ sym (ap ctcsStart (c .before .before .match .keys3))
 
--- src/lib.rt:35:1
 returns-4 : tie.Need-returns-4
 unfolding ctcsStart
 returns-4 c = c .before .new4 .ensures ∙ sym (ap ctcsStart (c .before .before .match .keys4))
 
--- src/lib.rt:35:1
 returns-5 : tie.Need-returns-5
 unfolding ctcsStart
 returns-5 c = c .before .new5 .ensures ∙ sym (ap ctcsStart (c .before .before .match .keys5))
 
--- src/lib.rt:35:1
 returns-6 : tie.Need-returns-6
 unfolding ctcs
 returns-6 c = ctcs-none (c .before .args .v) (c .match .rest)

@@ -8,133 +8,104 @@ use Rattle.packets.proofs.Choice.{etcs-none}
 use Rattle.packets.proofs.etcs.Statement.{statement}
 use Rattle.packets.proofs.etcs.Tie as tie
 
--- src/lib.rt:16:24
 new-requires : tie.Need-new-requires
 new-requires c κs = search needs
 
--- src/lib.rt:17:25
 new-requires-2 : tie.Need-new-requires-2
 new-requires-2 c κs = search needs
 
--- src/lib.rt:18:22
 new-requires-3 : tie.Need-new-requires-3
 new-requires-3 c κs = search needs
 
--- src/lib.rt:19:22
 new-requires-4 : tie.Need-new-requires-4
 new-requires-4 c κs = search needs
 
--- src/lib.rt:20:24
 new-requires-5 : tie.Need-new-requires-5
 new-requires-5 c κs = search needs
 
--- src/lib.rt:21:25
 new-requires-6 : tie.Need-new-requires-6
 new-requires-6 c κs = search needs
 
--- src/lib.rt:22:28
 new-requires-7 : tie.Need-new-requires-7
 new-requires-7 c κs = search needs
 
--- src/lib.rt:23:22
 new-requires-8 : tie.Need-new-requires-8
 new-requires-8 c κs = search needs
 
--- src/lib.rt:24:21
 new-requires-9 : tie.Need-new-requires-9
 new-requires-9 c κs = search needs
 
--- src/lib.rt:25:25
 new-requires-10 : tie.Need-new-requires-10
 new-requires-10 c κs = search needs
 
--- src/lib.rt:26:27
 new-requires-11 : tie.Need-new-requires-11
 new-requires-11 c κs = search needs
 
--- src/lib.rt:27:25
 new-requires-12 : tie.Need-new-requires-12
 new-requires-12 c κs = search needs
 
--- src/lib.rt:28:22
 new-requires-13 : tie.Need-new-requires-13
 new-requires-13 c κs = search needs
 
--- src/lib.rt:29:24
 new-requires-14 : tie.Need-new-requires-14
 new-requires-14 c κs = search needs
 
--- src/lib.rt:12:1
 returns : tie.Need-returns
 unfolding etcsStart
 returns c = c .before .new .ensures ∙ sym (ap etcsStart (c .before .before .match .keys1))
 
--- src/lib.rt:12:1
 returns-2 : tie.Need-returns-2
 unfolding etcsStart
 returns-2 c = c .before .new2 .ensures ∙ sym (ap etcsStart (c .before .before .match .keys2))
 
--- src/lib.rt:12:1
 returns-3 : tie.Need-returns-3
 unfolding etcsStart
 returns-3 c = c .before .new3 .ensures ∙ sym (ap etcsStart (c .before .before .match .keys3))
 
--- src/lib.rt:12:1
 returns-4 : tie.Need-returns-4
 unfolding etcsStart
 returns-4 c = c .before .new4 .ensures ∙ sym (ap etcsStart (c .before .before .match .keys4))
 
--- src/lib.rt:12:1
 returns-5 : tie.Need-returns-5
 unfolding etcsStart
 returns-5 c = c .before .new5 .ensures ∙ sym (ap etcsStart (c .before .before .match .keys5))
 
--- src/lib.rt:12:1
 returns-6 : tie.Need-returns-6
 unfolding etcsStart
 returns-6 c = c .before .new6 .ensures ∙ sym (ap etcsStart (c .before .before .match .keys6))
 
--- src/lib.rt:12:1
 returns-7 : tie.Need-returns-7
 unfolding etcsStart
 returns-7 c = c .before .new7 .ensures ∙ sym (ap etcsStart (c .before .before .match .keys7))
 
--- src/lib.rt:12:1
 returns-8 : tie.Need-returns-8
 unfolding etcsStart
 returns-8 c = c .before .new8 .ensures ∙ sym (ap etcsStart (c .before .before .match .keys8))
 
--- src/lib.rt:12:1
 returns-9 : tie.Need-returns-9
 unfolding etcsStart
 returns-9 c = c .before .new9 .ensures ∙ sym (ap etcsStart (c .before .before .match .keys9))
 
--- src/lib.rt:12:1
 returns-10 : tie.Need-returns-10
 unfolding etcsStart
 returns-10 c = c .before .new10 .ensures ∙ sym (ap etcsStart (c .before .before .match .keys10))
 
--- src/lib.rt:12:1
 returns-11 : tie.Need-returns-11
 unfolding etcsStart
 returns-11 c = c .before .new11 .ensures ∙ sym (ap etcsStart (c .before .before .match .keys11))
 
--- src/lib.rt:12:1
 returns-12 : tie.Need-returns-12
 unfolding etcsStart
 returns-12 c = c .before .new12 .ensures ∙ sym (ap etcsStart (c .before .before .match .keys12))
 
--- src/lib.rt:12:1
 returns-13 : tie.Need-returns-13
 unfolding etcsStart
 returns-13 c = c .before .new13 .ensures ∙ sym (ap etcsStart (c .before .before .match .keys13))
 
--- src/lib.rt:12:1
 returns-14 : tie.Need-returns-14
 unfolding etcsStart
 returns-14 c = c .before .new14 .ensures ∙ sym (ap etcsStart (c .before .before .match .keys14))
 
--- src/lib.rt:12:1
 returns-15 : tie.Need-returns-15
 unfolding etcs
 returns-15 c = etcs-none (c .before .args .v) (c .match .rest)

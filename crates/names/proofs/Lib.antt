@@ -1,0 +1,3 @@
+-- What is proved of names, in reading order.
+pub mod Cut
+pub mod Once

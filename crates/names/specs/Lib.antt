@@ -1,0 +1,3 @@
+-- The names of fields by number, in reading order.
+pub mod Names
+pub mod Examples

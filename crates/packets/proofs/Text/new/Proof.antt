@@ -1,0 +1,10 @@
+-- `packets::Text::new` meets its contract: the row and the head are those that stand with the kind. Assumes nothing.
+use mathlib.Core.Path.{refl}
+use Rattle.packets.proofs.Text.new.Statement.{statement}
+use Rattle.packets.proofs.Text.new.Tie as tie
+
+returns : tie.Need-returns
+returns c = refl
+
+pub new-spec : {M : Type 1} → statement M
+new-spec = tie.close (tie.spec returns)
