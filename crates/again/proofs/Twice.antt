@@ -19,6 +19,7 @@ use Rattle.format.specs.declared.Answer.the-variants.{Accepted, Refused}
 use Rattle.laws.proofs.Demand2.{length-bits, writes, write-is}
 use Rattle.states.specs.Reader.{atOnce, checked, readInto, answerOf, valuesOver, Read}
 use Rattle.states.specs.Writer.{writeInto, sizeOf, bytesOver, Write}
+use Rattle.states.proofs.Answered.{read-answer, write-answer}
 use Rattle.states.proofs.Answers.{check-judges, read-judges, answer-accepted, answer-refused, Stored, accepted-stores}
 use Rattle.states.proofs.Accepting.{sent, same-bytes, bytes-long, checks}
 use Rattle.states.proofs.Checking.{AcceptedAs, was-accepted, was-refused}
@@ -65,7 +66,7 @@ module _ (p : Terms) (s : List ℕ) (n : ℕ) (run out run-after : List ℕ) whe
 
   pub read-refused : {a : Answer} {r : Refusal} → Read p s n run a run-after → a ≡ Refused r → Rewritten p s n run out a run-after out
   read-refused {a} {r} h e =
-      let f : afterRead ≡ refused r = answer-refused afterRead r .0 (sym e ∙ h .answers) in
+      let f : afterRead ≡ refused r = answer-refused afterRead r .0 (sym e ∙ read-answer h) in
       record { answers = rw f e; values = h .contents; telegram = rw f }
 
   module _ {a : Answer} {count : ℕ} (h : Read p s n run a run-after) (e : a ≡ Accepted count) where
@@ -83,7 +84,7 @@ module _ (p : Terms) (s : List ℕ) (n : ℕ) (run out run-after : List ℕ) whe
     pub rewrites : {out-after : List ℕ} {b : Answer} → Below 256 s → Write p (take count run-after) out b out-after
         → Rewritten p s n run out b run-after out-after
     rewrites {out-after} {b} bytes w =
-        let g = answer-accepted afterRead count .0 (sym e ∙ h .answers) in
+        let g = answer-accepted afterRead count .0 (sym e ∙ read-answer h) in
         let es = g .0 in
         let f : afterRead ≡ accepted es = g .1 in
         let j = read-judges p s n (length run) .accepts es .0 f .1 in
@@ -93,7 +94,7 @@ module _ (p : Terms) (s : List ℕ) (n : ℕ) (run out run-after : List ℕ) whe
         let front : take count run-after ≡ values es = stores .2 .front ∙ ap values same in
         let i = then-written p (j .telegram) n (sym (length-bits es) ∙ sent p s n es j) s (same-bytes p s n es j bytes) out in
         let v : Write p (values es) out b out-after = rw front at w in
-        record { answers = rw f (v .answers ∙ i .0); values = h .contents; telegram = rw f (v .contents ∙ i .1) }
+        record { answers = rw f (write-answer v ∙ i .0); values = h .contents; telegram = rw f (v .contents ∙ i .1) }
 
 -- ---- written, and read again
 
@@ -103,7 +104,7 @@ module _ (p : Terms) (vs out run out-after : List ℕ) where
 
   pub write-refused : {a : Answer} {r : Refusal} → Write p vs out a out-after → a ≡ Refused r → Reread p vs out run a out-after run
   write-refused {a} {r} h e =
-      let f : afterWrite ≡ refused r = was-refused bitCount afterWrite a r (h .answers) e in
+      let f : afterWrite ≡ refused r = was-refused bitCount afterWrite a r (write-answer h) e in
       record { answers = rw f e; telegram = h .contents; values = rw f }
 
   was-written : (es : List Entry) → afterWrite ≡ accepted es → Telegram p es × (vs ≡ values es)
@@ -112,7 +113,7 @@ module _ (p : Terms) (vs out run out-after : List ℕ) where
 
   module _ {a : Answer} {n : ℕ} (h : Write p vs out a out-after) (e : a ≡ Accepted n) where
     accepts : AcceptedAs bitCount afterWrite n
-    accepts = was-accepted bitCount afterWrite a n (h .answers) e
+    accepts = was-accepted bitCount afterWrite a n (write-answer h) e
 
     abbrev sentBytes : List ℕ
     sentBytes = bytesOf (bits (accepts .entries))
@@ -143,7 +144,7 @@ module _ (p : Terms) (vs out run out-after : List ℕ) where
         let i = then-read p (t .0) n (accepts .counted) run in
         let v : Read p (bytesOf (bits es)) n run b run-after = rw front at r in
         record {
-          answers = rw (f, t .1) (v .answers ∙ i .0);
+          answers = rw (f, t .1) (read-answer v ∙ i .0);
           telegram = h .contents;
           values = rw (f, t .1) (v .contents ∙ i .1);
         }

@@ -25,6 +25,7 @@ use Rattle.laws.proofs.Demand3.{normal-count, normal-accepted, normal-again, sa
 use Rattle.states.specs.Reader.{atOnce, checked}
 use Rattle.states.specs.Writer.{sizeOf, bytesOver}
 use Rattle.states.specs.Normaliser.{normalOf, normaliseInto, Normalise}
+use Rattle.states.proofs.Answered.{normalise-answer}
 use Rattle.states.proofs.Answers.{check-judges}
 use Rattle.states.proofs.Checking.{was-accepted, was-refused}
 use Rattle.normals.specs.Normals.{againOf, againIn, Renormalised, same, alike, SaysSame}
@@ -87,7 +88,7 @@ module _ (p : Terms) (s : List ℕ) (n : ℕ) (x x-after : List ℕ) where
   module _ {a : Answer} {k : ℕ} (h : Normalise p s n x a x-after) (e : a ≡ Accepted k) where
     pub formed : Formed k
     formed =
-        let w = was-accepted bitCount form a k (h .answers) e in
+        let w = was-accepted bitCount form a k (normalise-answer h) e in
         let g = normal-of (w .entries) (w .is) in
         let es = g .0 in
         let j = check-judges p s n .accepts es .0 (g .1) in
@@ -152,7 +153,7 @@ unchanged false y = refl
 module _ (p : Terms) (s : List ℕ) (n : ℕ) (x y x-after : List ℕ) where
   pub form-refused : {a : Answer} {r : Refusal} → Normalise p s n x a x-after → a ≡ Refused r → Renormalised p s n x y a x-after y
   form-refused {a} {r} h e =
-      let f : form p s n x x-after ≡ refused r = was-refused bitCount (form p s n x x-after) a r (h .answers) e in
+      let f : form p s n x x-after ≡ refused r = was-refused bitCount (form p s n x x-after) a r (normalise-answer h) e in
       record { answers = rw f e; once = h .contents; twice = rw f (unchanged (leb 104 (length y)) y) }
 
   pub renormalises : {a b : Answer} {k j : ℕ} {y-after : List ℕ} → Normalise p s n x a x-after → a ≡ Accepted k → j ≡ bytesFor k
@@ -163,20 +164,20 @@ module _ (p : Terms) (s : List ℕ) (n : ℕ) (x y x-after : List ℕ) where
       let i = then-again p (w .telegram) n (w .size) y in
       let v : Normalise p (bytesOf (bits (normal (w .entries)))) n y b y-after = rw (w .answered, q) at g in
       let f = w .is in
-      record { answers = rw f (v .answers ∙ i .0); once = h .contents; twice = rw f (v .contents ∙ i .1) }
+      record { answers = rw f (normalise-answer v ∙ i .0); once = h .contents; twice = rw f (v .contents ∙ i .1) }
 
 -- ---- two normal forms compared
 
 module _ (p : Terms) (s : List ℕ) (n : ℕ) (t : List ℕ) (m : ℕ) (x y x-after : List ℕ) where
   pub first-refused : {a : Answer} {r : Refusal} → Normalise p s n x a x-after → a ≡ Refused r → SaysSame p s n t m x y (First r) x-after y
   first-refused {a} {r} h e =
-      let f : form p s n x x-after ≡ refused r = was-refused bitCount (form p s n x x-after) a r (h .answers) e in
+      let f : form p s n x x-after ≡ refused r = was-refused bitCount (form p s n x x-after) a r (normalise-answer h) e in
       record { answers = rw f; first = h .contents; second = rw f }
 
   module _ (y-after : List ℕ) {a b : Answer} {j : ℕ} (h : Normalise p s n x a x-after) (e : a ≡ Accepted j) (g : Normalise p t m y b y-after) where
     pub second-refused : {r : Refusal} → b ≡ Refused r → SaysSame p s n t m x y (Second r) x-after y-after
     second-refused {r} d =
-        let f : form p t m y y-after ≡ refused r = was-refused bitCount (form p t m y y-after) b r (g .answers) d in
+        let f : form p t m y y-after ≡ refused r = was-refused bitCount (form p t m y y-after) b r (normalise-answer g) d in
         let i = formed p s n x x-after h e .is in
         record { answers = rw (i, f); first = h .contents; second = rw i (g .contents) }
 
