@@ -6,6 +6,7 @@ use Prim.Native.Nat.{ℕ}
 use Rattle.bits.proofs.Once.{Once}
 use Rattle.format.specs.Rules.{Terms}
 use Rattle.format.specs.declared.Answer.{Answer}
+use Rattle.format.proofs.Numbers.{answer-is}
 use Rattle.again.specs.Again.{Rewritten, Reread}
 
 -- the answer and both final contents together
@@ -19,8 +20,8 @@ same-outcome a b p q r =
 pub rewritten-once : (p : Terms) (s : List ℕ) (n : ℕ) (run out : List ℕ)
     → Once (λ (r : Outcome). Rewritten p s n run out (r .0) (r .1) (r .2))
 rewritten-once p s n run out a b h g =
-    same-outcome a b (h .answers ∙ sym (g .answers)) (h .values ∙ sym (g .values)) (h .telegram ∙ sym (g .telegram))
+    same-outcome a b (answer-is (a .0) (b .0) (h .answers ∙ sym (g .answers))) (h .values ∙ sym (g .values)) (h .telegram ∙ sym (g .telegram))
 
 pub reread-once : (p : Terms) (vs out run : List ℕ) → Once (λ (r : Outcome). Reread p vs out run (r .0) (r .1) (r .2))
 reread-once p vs out run a b h g =
-    same-outcome a b (h .answers ∙ sym (g .answers)) (h .telegram ∙ sym (g .telegram)) (h .values ∙ sym (g .values))
+    same-outcome a b (answer-is (a .0) (b .0) (h .answers ∙ sym (g .answers))) (h .telegram ∙ sym (g .telegram)) (h .values ∙ sym (g .values))

@@ -8,6 +8,7 @@ use lib.Dec.{leb}
 use lib.ListN.{length, take, drop, length-take, length-append}
 use lib.Seq.{take-at}
 use Rattle.bits.specs.Bits.{bytesOf, bytesFor, Below}
+use Rattle.format.specs.Refusals.{inNumbers}
 use Rattle.format.specs.Rules.{Terms}
 use Rattle.format.specs.Telegrams.{Entry, Result, Telegram, bits, values, bitCount, write}
 use Rattle.format.specs.Telegrams.Result.{accepted, refused}
@@ -18,6 +19,7 @@ use Rattle.format.specs.declared.Answer.the-variants.{Accepted, Refused}
 use Rattle.laws.proofs.Demand2.{length-bits, writes, write-is}
 use Rattle.states.specs.Reader.{checked, readInto, Read}
 use Rattle.states.specs.Writer.{writeInto, bytesOver, Write}
+use Rattle.states.proofs.Answered.{read-answer, write-answer}
 use Rattle.states.proofs.Answers.{check-judges, read-judges, answer-accepted, answer-refused, Stored, accepted-stores}
 use Rattle.states.proofs.Accepting.{sent, same-bytes, bytes-long, checks}
 use Rattle.states.proofs.Checking.{AcceptedAs, was-accepted, was-refused}
@@ -53,9 +55,9 @@ module _ (p : Terms) (s : List ℕ) (n : ℕ) (run out : List ℕ) where
 
     pub read-refused : {a : Answer} {r : Refusal} → Read p s n run a run-after → a ≡ Refused r → Rewritten p s n run out a run-after out
     read-refused {a} {r} h e =
-        let f : afterRead ≡ refused r = answer-refused afterRead r .0 (sym e ∙ h .answers) in
+        let f : afterRead ≡ refused r = answer-refused afterRead r .0 (sym e ∙ read-answer h) in
         let g = as-read ∙ f in
-        record { answers = rw g e; values = rw as-read (h .contents); telegram = rw g }
+        record { answers = rw g (ap inNumbers e); values = rw as-read (h .contents); telegram = rw g }
 
     module _ {a : Answer} {count : ℕ} (h : Read p s n run a run-after) (e : a ≡ Accepted count) where
       stores : (es : List Entry) × (checked p s n ≡ accepted es) × Stored es count run run-after
@@ -72,7 +74,7 @@ module _ (p : Terms) (s : List ℕ) (n : ℕ) (run out : List ℕ) where
       pub rewrites : {out-after : List ℕ} {b : Answer} → Below 256 s → Write p (take count run-after) out b out-after
           → Rewritten p s n run out b run-after out-after
       rewrites {out-after} {b} bytes w =
-          let g = answer-accepted afterRead count .0 (sym e ∙ h .answers) in
+          let g = answer-accepted afterRead count .0 (sym e ∙ read-answer h) in
           let es = g .0 in
           let f : afterRead ≡ accepted es = g .1 in
           let j = read-judges p s n (length run) .accepts es .0 f .1 in
@@ -111,13 +113,13 @@ module _ (p : Terms) (vs out run : List ℕ) where
 
     pub write-refused : {a : Answer} {r : Refusal} → Write p vs out a out-after → a ≡ Refused r → Reread p vs out run a out-after run
     write-refused {a} {r} h e =
-        let f : afterWrite ≡ refused r = was-refused bitCount afterWrite a r (h .answers) e in
+        let f : afterWrite ≡ refused r = was-refused bitCount afterWrite a r (write-answer h) e in
         let g = as-written ∙ f in
-        record { answers = rw g e; telegram = rw as-written (h .contents); values = rw g }
+        record { answers = rw g (ap inNumbers e); telegram = rw as-written (h .contents); values = rw g }
 
     module _ {a : Answer} {n : ℕ} (h : Write p vs out a out-after) (e : a ≡ Accepted n) where
       accepts : AcceptedAs bitCount afterWrite n
-      accepts = was-accepted bitCount afterWrite a n (h .answers) e
+      accepts = was-accepted bitCount afterWrite a n (write-answer h) e
 
       abbrev sentBytes : List ℕ
       sentBytes = bytesOf (bits (accepts .entries))

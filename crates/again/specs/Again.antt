@@ -4,6 +4,7 @@ use mathlib.Core.List.{List, _++_}
 use mathlib.Core.Path.{_≡_}
 use Prim.Native.Nat.{ℕ}
 use lib.ListN.{length, drop}
+use Rattle.format.specs.Refusals.{inNumbers}
 use Rattle.format.specs.Rules.{Terms}
 use Rattle.format.specs.Telegrams.{Result}
 use Rattle.format.specs.Telegrams.Result.{accepted, refused}
@@ -25,7 +26,7 @@ rewriteInto p s n run out = roomed 104 out (readInto p s n run)
 
 -- the promise of `rewritten`: n and the bytes s come back, and the run holds what reading leaves there
 pub record Rewritten (p : Terms) (s : List ℕ) (n : ℕ) (run out : List ℕ) (answer : Answer) (run-after out-after : List ℕ) : Type 0 where
-  pub answers : answer ≡ answered (λ es. n) (rewriteInto p s n (length run) (length out))
+  pub answers : inNumbers answer ≡ inNumbers (answered (λ es. n) (rewriteInto p s n (length run) (length out)))
   pub values : run-after ≡ valuesOver (rewriteInto p s n (length run) (length out)) run
   pub telegram : out-after ≡ restored s (rewriteInto p s n (length run) (length out)) out
 
@@ -37,6 +38,6 @@ rereadInto p vs out run = roomed 830 run (writeInto p vs out)
 
 -- the promise of `reread`: the values vs and their count come back, and the bytes hold what writing leaves there
 pub record Reread (p : Terms) (vs out run : List ℕ) (answer : Answer) (out-after run-after : List ℕ) : Type 0 where
-  pub answers : answer ≡ answered (λ es. length vs) (rereadInto p vs (length out) (length run))
+  pub answers : inNumbers answer ≡ inNumbers (answered (λ es. length vs) (rereadInto p vs (length out) (length run)))
   pub telegram : out-after ≡ bytesOver (rereadInto p vs (length out) (length run)) out
   pub values : run-after ≡ restored vs (rereadInto p vs (length out) (length run)) run

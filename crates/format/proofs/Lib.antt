@@ -2,3 +2,4 @@
 pub mod Rows
 pub mod Rests
 pub mod Heads
+pub mod Numbers

@@ -5,15 +5,16 @@ use Prim.Native.Nat.{ℕ}
 use Prim.Native.String.{String}
 use lib.Dec.{eqb}
 use Rattle.format.specs.Packets.{_⧺_, times, header, etcs, ctcs, find}
-use Rattle.format.specs.Refusals.{numberOf}
+use Rattle.format.specs.Refusals.{inNumbers}
 use Rattle.format.specs.Rules.{Terms, begun, next, misdirected, broken, noted, closes, settled, onward, step, radioFrom, spotOf, spotAt, placeFrom, fieldPlace, clash, among, collidesBy, paper}
 use Rattle.format.specs.Telegrams.{Result, names, places, bitCount, fromValues, drive, write}
 use Rattle.format.specs.Telegrams.Result.{accepted, refused}
+use Rattle.format.specs.declared.Answer.the-variants.{Accepted, Refused}
 
--- an answer in numbers: 0 and the bits of an accepted telegram, or the number and the place of a refusal
-abbrev said : Result → List ℕ
-said (accepted es) = 0 ∷ bitCount es ∷ []
-said (refused r) = numberOf (r .kind) ∷ r .place ∷ []
+-- the writer's answer in numbers: 0 and the bits of an accepted telegram, or the number and the place of a refusal
+abbrev said : Result → ℕ × ℕ
+said (accepted es) = inNumbers (Accepted (bitCount es))
+said (refused r) = inNumbers (Refused r)
 
 unfoldable pub writtenBy : Terms → List ℕ → Result
 unfolding write drive begun fromValues step next find etcs ctcs header times _⧺_ broken misdirected noted settled onward closes radioFrom spotOf spotAt placeFrom fieldPlace collidesBy among clash
@@ -23,24 +24,24 @@ abbrev pub written : List ℕ → Result
 written vs = writtenBy paper vs
 
 -- a header, with packets or a part of one after it
-abbrev toldBy : Terms → List ℕ → List ℕ
+abbrev toldBy : Terms → List ℕ → ℕ × ℕ
 toldBy p vs = said (writtenBy p (1 ∷ 16 ∷ 0 ∷ 0 ∷ 1 ∷ 0 ∷ 255 ∷ 9 ∷ 3007 ∷ 1 ∷ vs))
 
-abbrev told : List ℕ → List ℕ
+abbrev told : List ℕ → ℕ × ℕ
 told vs = toldBy paper vs
 
 -- Q_UPDOWN, M_VERSION, Q_MEDIA, N_PIG above N_TOTAL, M_DUP; then nothing at all, and values that end in the header
 header-rules : map (λ vs. said (written vs))
     ((0 ∷ 16 ∷ 0 ∷ 0 ∷ 1 ∷ []) ∷ (1 ∷ 17 ∷ []) ∷ (1 ∷ 16 ∷ 1 ∷ []) ∷ (1 ∷ 16 ∷ 0 ∷ 2 ∷ 1 ∷ []) ∷ (1 ∷ 16 ∷ 0 ∷ 1 ∷ 1 ∷ 3 ∷ [])
     ∷ [] ∷ (1 ∷ 16 ∷ 0 ∷ []) ∷ [])
-    ≡ (4 ∷ 0 ∷ []) ∷ (4 ∷ 1 ∷ []) ∷ (4 ∷ 8 ∷ []) ∷ (4 ∷ 12 ∷ []) ∷ (4 ∷ 15 ∷ []) ∷ (5 ∷ 0 ∷ []) ∷ (5 ∷ 9 ∷ []) ∷ []
+    ≡ (4, 0) ∷ (4, 1) ∷ (4, 8) ∷ (4, 12) ∷ (4, 15) ∷ (5, 0) ∷ (5, 9) ∷ []
 unfolding writtenBy
 header-rules = refl
 
 -- the end mark alone, with a value after it, without it; ETCS-254 with a right and a wrong L_PACKET; an identifier of no table
 between-packets : map told
     ((255 ∷ []) ∷ (255 ∷ 0 ∷ []) ∷ [] ∷ (254 ∷ 2 ∷ 23 ∷ 255 ∷ []) ∷ (254 ∷ 2 ∷ 24 ∷ 255 ∷ []) ∷ (7 ∷ []) ∷ [])
-    ≡ (0 ∷ 58 ∷ []) ∷ (11 ∷ 58 ∷ []) ∷ (5 ∷ 50 ∷ []) ∷ (0 ∷ 81 ∷ []) ∷ (8 ∷ 60 ∷ []) ∷ (6 ∷ 50 ∷ []) ∷ []
+    ≡ (0, 58) ∷ (11, 58) ∷ (5, 50) ∷ (0, 81) ∷ (8, 60) ∷ (6, 50) ∷ []
 unfolding writtenBy
 between-packets = refl
 
@@ -48,7 +49,7 @@ between-packets = refl
 values-allowed : map told
     ((132 ∷ 3 ∷ []) ∷ (21 ∷ 1 ∷ 54 ∷ 3 ∷ []) ∷ (46 ∷ 1 ∷ 47 ∷ 1 ∷ 0 ∷ []) ∷ (46 ∷ 1 ∷ 42 ∷ 1 ∷ 3 ∷ 1 ∷ 0 ∷ 255 ∷ [])
     ∷ (42 ∷ 1 ∷ 113 ∷ 0 ∷ 0 ∷ 0 ∷ 0x08614970020002FF ∷ 0 ∷ 255 ∷ []) ∷ (42 ∷ 1 ∷ 113 ∷ 0 ∷ 0 ∷ 0 ∷ 0x0861497002000FF2 ∷ []) ∷ [])
-    ≡ (7 ∷ 58 ∷ []) ∷ (7 ∷ 73 ∷ []) ∷ (7 ∷ 76 ∷ []) ∷ (0 ∷ 100 ∷ []) ∷ (0 ∷ 171 ∷ []) ∷ (7 ∷ 98 ∷ []) ∷ []
+    ≡ (7, 58) ∷ (7, 73) ∷ (7, 76) ∷ (0, 100) ∷ (0, 171) ∷ (7, 98) ∷ []
 unfolding writtenBy
 values-allowed = refl
 
@@ -56,21 +57,21 @@ values-allowed = refl
 inner-packets : map told
     ((44 ∷ 1 ∷ 48 ∷ 5 ∷ 1 ∷ 25 ∷ 0 ∷ 255 ∷ []) ∷ (44 ∷ 1 ∷ 48 ∷ 5 ∷ 0 ∷ 25 ∷ 0 ∷ []) ∷ (44 ∷ 1 ∷ 48 ∷ 5 ∷ 1 ∷ 24 ∷ 0 ∷ [])
     ∷ (44 ∷ 1 ∷ 57 ∷ 5 ∷ 1 ∷ 25 ∷ 0 ∷ []) ∷ (44 ∷ 1 ∷ 57 ∷ 5 ∷ 1 ∷ 24 ∷ 0 ∷ []) ∷ (44 ∷ 1 ∷ 48 ∷ 6 ∷ []) ∷ [])
-    ≡ (0 ∷ 106 ∷ []) ∷ (9 ∷ 82 ∷ []) ∷ (8 ∷ 84 ∷ []) ∷ (8 ∷ 60 ∷ []) ∷ (8 ∷ 84 ∷ []) ∷ (6 ∷ 73 ∷ []) ∷ []
+    ≡ (0, 106) ∷ (9, 82) ∷ (8, 84) ∷ (8, 60) ∷ (8, 84) ∷ (6, 73) ∷ []
 unfolding writtenBy
 inner-packets = refl
 
 -- ETCS-132 twice, with each pair of directions: only 0 and 1 go together
 directions-collide : map (λ first. map (λ d. told (132 ∷ first ∷ 24 ∷ 0 ∷ 132 ∷ d ∷ 24 ∷ 0 ∷ 255 ∷ [])) (0 ∷ 1 ∷ 2 ∷ [])) (0 ∷ 1 ∷ 2 ∷ [])
-    ≡ ((10 ∷ 82 ∷ []) ∷ (0 ∷ 106 ∷ []) ∷ (10 ∷ 82 ∷ []) ∷ [])
-    ∷ ((0 ∷ 106 ∷ []) ∷ (10 ∷ 82 ∷ []) ∷ (10 ∷ 82 ∷ []) ∷ [])
-    ∷ ((10 ∷ 82 ∷ []) ∷ (10 ∷ 82 ∷ []) ∷ (10 ∷ 82 ∷ []) ∷ []) ∷ []
+    ≡ ((10, 82) ∷ (0, 106) ∷ (10, 82) ∷ [])
+    ∷ ((0, 106) ∷ (10, 82) ∷ (10, 82) ∷ [])
+    ∷ ((10, 82) ∷ (10, 82) ∷ (10, 82) ∷ []) ∷ []
 unfolding writtenBy
 directions-collide = refl
 
 -- by document 01's rule, that two directions are the same, one for both ways could stand beside one for one way
 directions-before : map (λ d. toldBy (record { placeOf = fieldPlace; collides = collidesBy eqb }) (132 ∷ 1 ∷ 24 ∷ 0 ∷ 132 ∷ d ∷ 24 ∷ 0 ∷ 255 ∷ [])) (0 ∷ 1 ∷ 2 ∷ [])
-    ≡ (0 ∷ 106 ∷ []) ∷ (10 ∷ 82 ∷ []) ∷ (0 ∷ 106 ∷ []) ∷ []
+    ≡ (0, 106) ∷ (10, 82) ∷ (0, 106) ∷ []
 unfolding writtenBy
 directions-before = refl
 
@@ -80,7 +81,7 @@ collisions : map told
     ((132 ∷ 0 ∷ 24 ∷ 0 ∷ 132 ∷ 1 ∷ 24 ∷ 0 ∷ 132 ∷ 2 ∷ []) ∷ (132 ∷ 0 ∷ 24 ∷ 0 ∷ 137 ∷ 2 ∷ 24 ∷ 1 ∷ 132 ∷ 2 ∷ []) ∷ (132 ∷ 2 ∷ 24 ∷ 0 ∷ 132 ∷ 3 ∷ [])
     ∷ (44 ∷ 1 ∷ 48 ∷ 5 ∷ 1 ∷ 25 ∷ 0 ∷ 44 ∷ 1 ∷ 48 ∷ 5 ∷ 1 ∷ 25 ∷ 0 ∷ 255 ∷ []) ∷ (44 ∷ 2 ∷ 48 ∷ 5 ∷ 2 ∷ 25 ∷ 0 ∷ 44 ∷ 1 ∷ 48 ∷ 5 ∷ 1 ∷ 25 ∷ 0 ∷ 255 ∷ [])
     ∷ (132 ∷ 1 ∷ 24 ∷ 0 ∷ 137 ∷ 1 ∷ 24 ∷ 1 ∷ 255 ∷ []) ∷ [])
-    ≡ (10 ∷ 106 ∷ []) ∷ (10 ∷ 106 ∷ []) ∷ (7 ∷ 82 ∷ []) ∷ (0 ∷ 154 ∷ []) ∷ (0 ∷ 154 ∷ []) ∷ (0 ∷ 106 ∷ []) ∷ []
+    ≡ (10, 106) ∷ (10, 106) ∷ (7, 82) ∷ (0, 154) ∷ (0, 154) ∷ (0, 106) ∷ []
 unfolding writtenBy
 collisions = refl
 
@@ -88,7 +89,7 @@ collisions = refl
 ways-and-lists : map told
     ((68 ∷ 1 ∷ 41 ∷ 1 ∷ 1 ∷ 7 ∷ 255 ∷ []) ∷ (68 ∷ 1 ∷ 65 ∷ 1 ∷ 0 ∷ 7 ∷ 8 ∷ 9 ∷ 0 ∷ 255 ∷ []) ∷ (132 ∷ 4 ∷ [])
     ∷ (27 ∷ 1 ∷ 108 ∷ 1 ∷ 7 ∷ 8 ∷ 0 ∷ 0 ∷ 1 ∷ 7 ∷ 8 ∷ 0 ∷ 2 ∷ 0 ∷ 5 ∷ 2 ∷ 6 ∷ 255 ∷ []) ∷ (132 ∷ 1 ∷ []) ∷ [])
-    ≡ (0 ∷ 99 ∷ []) ∷ (0 ∷ 123 ∷ []) ∷ (12 ∷ 58 ∷ []) ∷ (0 ∷ 166 ∷ []) ∷ (5 ∷ 60 ∷ []) ∷ []
+    ≡ (0, 99) ∷ (0, 123) ∷ (12, 58) ∷ (0, 166) ∷ (5, 60) ∷ []
 unfolding writtenBy
 ways-and-lists = refl
 

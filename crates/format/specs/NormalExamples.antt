@@ -2,7 +2,6 @@
 use mathlib.Core.List.{List, [], _∷_, _++_, map}
 use mathlib.Core.Path.{_≡_, refl}
 use Prim.Native.Nat.{ℕ}
-use Rattle.format.specs.Refusals.{numberOf}
 use Rattle.format.specs.Telegrams.{Result, values, valuesIn}
 use Rattle.format.specs.Telegrams.Result.{accepted, refused}
 use Rattle.format.specs.Normal.{Said, says, saysUnder, normal, normalUnder}
@@ -15,7 +14,7 @@ head = 1 ∷ 16 ∷ 0 ∷ 0 ∷ 1 ∷ 0 ∷ 255 ∷ 9 ∷ 3007 ∷ 1 ∷ []
 abbrev valuesOf : Result → List ℕ
 unfolding normalUnder valuesIn
 valuesOf (accepted es) = values (normal es)
-valuesOf (refused r) = numberOf (r .kind) ∷ r .place ∷ []
+valuesOf (refused r) = []
 
 -- the telegram that has these packets
 abbrev is : List ℕ → List ℕ

@@ -33,7 +33,13 @@ numberOf Wide = 12
 -- writer: the field would end past bit 830
 numberOf Full = 13
 
+-- "When an answer is an enum, a definition specifies this paper's number and values for each of its cases": 0 and what is given; or the
+-- refusal's number and its place. `answer-is` in proofs/Numbers.antt says that an answer is known by them.
+abbrev pub inNumbers : Answer → ℕ × ℕ
+inNumbers (Accepted given) = (0, given)
+inNumbers (Refused r) = (numberOf (r .kind), r .place)
+
 -- "there the answer is 0, or 1,024 times the refusal number plus the place"
 abbrev pub codeOf : Answer → ℕ
-codeOf (Accepted n) = 0
-codeOf (Refused r) = 1024 * numberOf (r .kind) + r .place
+codeOf (Accepted given) = 0
+codeOf (Refused r) = 1024 * inNumbers (Refused r) .0 + inNumbers (Refused r) .1

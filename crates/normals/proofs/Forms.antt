@@ -11,6 +11,7 @@ use lib.ListN.{length, take, drop, length-append}
 use lib.Seq.{take-at}
 use Rattle.bits.specs.Bits.{bytesOf, bytesFor}
 use Rattle.format.specs.Normal.{normal}
+use Rattle.format.specs.Refusals.{inNumbers}
 use Rattle.format.specs.Rules.{Terms}
 use Rattle.format.specs.Telegrams.{Entry, Result, Telegram, bits, bitCount}
 use Rattle.format.specs.Telegrams.Result.{accepted, refused}
@@ -24,6 +25,7 @@ use Rattle.states.specs.Reader.{atOnce, checked}
 use Rattle.states.specs.Writer.{sizeOf, bytesOver}
 use Rattle.states.specs.Normaliser.{normalOf, normaliseInto, Normalise}
 use Rattle.states.proofs.Accepting.{sent, bytes-long, checks}
+use Rattle.states.proofs.Answered.{normalise-answer}
 use Rattle.states.proofs.Answers.{Sound, check-judges}
 use Rattle.states.proofs.Checking.{was-accepted, was-refused}
 use Rattle.states.proofs.Pointing.{room-accepted, normal-given}
@@ -63,7 +65,7 @@ module _ (p : Terms) (s : List ℕ) (n : ℕ) (x : List ℕ) (g : Ready p s n x)
   -- what the normaliser then gives and leaves
   module _ (x-after : List ℕ) {a : Answer} (h : Normalise p s n x a x-after) where
     pub gives : a ≡ Accepted n
-    gives = h .answers ∙ ap sizeOf form-is ∙ ap Accepted (sym form-size)
+    gives = normalise-answer h ∙ ap sizeOf form-is ∙ ap Accepted (sym form-size)
 
     pub holds : x-after ≡ bytesOver (accepted form) x
     holds = h .contents ∙ ap (λ (r : Result). bytesOver r x) form-is
@@ -98,7 +100,7 @@ module _ (p : Terms) (s : List ℕ) (n : ℕ) (x : List ℕ) where
   module _ (x-after : List ℕ) {a : Answer} (h : Normalise p s n x a x-after) where
     pub ready : {k : ℕ} → a ≡ Accepted k → Ready p s n x
     ready {k} e =
-        let w = was-accepted bitCount (normaliseInto p s n (length x)) a k (h .answers) e in
+        let w = was-accepted bitCount (normaliseInto p s n (length x)) a k (normalise-answer h) e in
         ready-for (w .entries) (w .is)
 
     pub given-size : {k : ℕ} (e : a ≡ Accepted k) → k ≡ n
@@ -121,8 +123,8 @@ module _ (p : Terms) (s : List ℕ) (n : ℕ) (x y : List ℕ) where
 
     pub form-refused : {r : Refusal} → a ≡ Refused r → Renormalised p s n x y a x-after y
     form-refused {r} e =
-        let f = as-once ∙ was-refused bitCount onceInto a r (h .answers) e in
-        record { answers = rw f e; once = rw as-once (h .contents); twice = rw f }
+        let f = as-once ∙ was-refused bitCount onceInto a r (normalise-answer h) e in
+        record { answers = rw f (ap inNumbers e); once = rw as-once (h .contents); twice = rw f }
 
     pub renormalises : {b : Answer} {k j : ℕ} {y-after : List ℕ} → a ≡ Accepted k → j ≡ bytesFor k → Normalise p (take j x-after) k y b y-after
         → Renormalised p s n x y b x-after y-after
@@ -135,7 +137,7 @@ module _ (p : Terms) (s : List ℕ) (n : ℕ) (x y : List ℕ) where
         let r : Ready p bytes n y = record { entries = form p s n x g; accepts = form-accepted p s n x g; room = room } in
         let f = as-once ∙ form-is p s n x g in
         record {
-          answers = rw f (gives p bytes n y r y-after v);
+          answers = rw f (ap inNumbers (gives p bytes n y r y-after v));
           once = rw as-once (h .contents);
           twice = rw f (holds p bytes n y r y-after v ∙ ap (λ (es : List Entry). bytesOver (accepted es) y) (normal-again p (original p s n x g .telegram)));
         }

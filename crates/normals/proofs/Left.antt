@@ -13,6 +13,7 @@ use Rattle.format.specs.Telegrams.{Entry, Result, bits}
 use Rattle.format.specs.Telegrams.Result.{accepted}
 use Rattle.format.specs.declared.Answer.{Answer}
 use Rattle.format.specs.declared.Answer.the-variants.{Accepted}
+use Rattle.format.proofs.Numbers.{answer-is}
 use Rattle.laws.proofs.Demand3.{normal-says, normal-again, same-says}
 use Rattle.states.specs.Reader.{checked}
 use Rattle.states.specs.Writer.{bytesOver}
@@ -23,6 +24,7 @@ use Rattle.normals.specs.Normals.{same, Renormalised, alike, SaysSame, R
 use Rattle.normals.specs.declared.Alike.{Alike}
 use Rattle.normals.specs.declared.Alike.the-variants.{Same, Other}
 use Rattle.normals.proofs.Forms.{form, original, form-telegram, form-is, form-accepted, bits-long, gives, front, ready, given-size}
+use Rattle.normals.proofs.Numbers.{alike-is}
 use Rattle.normals.proofs.Pairs.{same-true, same-self, pair-is}
 
 -- the ceil(n/8) bytes in front
@@ -97,7 +99,7 @@ module _ (p : Terms) where
   renormalised-unchanged s n x y es c rx ry answer x-after y-after h =
       let g : Ready p s n x = record { entries = es; accepts = c; room = rx } in
       let f = roomy 104 (length y) _ ry ∙ form-is p s n x g in (
-        h .answers ∙ rw f,
+        answer-is answer (Accepted n) (h .answers ∙ rw f),
         h .once ∙ rw f,
         h .twice ∙ rw f,
       )
@@ -112,7 +114,7 @@ module _ (p : Terms) where
   same-just-where s n t m x y g f answer x-after y-after h =
       let ones = bits (form p s n x g) in
       let others = bits (form p t m y f) in
-      let e : answer ≡ cond (same ones others) Same Other = h .answers ∙ ap alike (pair-is p s n t m x y g f) in
+      let e : answer ≡ cond (same ones others) Same Other = alike-is answer _ (h .answers) ∙ ap alike (pair-is p s n t m x y g f) in
       let d = by-same (same ones others) in
       let q = same-says p (original p s n x g .telegram) (original p t m y f .telegram) in (
         λ u. q .1 (same-true ones others (d .0 (sym e ∙ u))),

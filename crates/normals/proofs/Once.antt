@@ -6,8 +6,10 @@ use Prim.Native.Nat.{ℕ}
 use Rattle.bits.proofs.Once.{Once}
 use Rattle.format.specs.Rules.{Terms}
 use Rattle.format.specs.declared.Answer.{Answer}
+use Rattle.format.proofs.Numbers.{answer-is}
 use Rattle.normals.specs.Normals.{Renormalised, SaysSame}
 use Rattle.normals.specs.declared.Alike.{Alike}
+use Rattle.normals.proofs.Numbers.{alike-is}
 
 -- the answer and both final contents together
 abbrev With : Type 0 → Type 0
@@ -20,9 +22,9 @@ same-outcome {A} a b p q r =
 pub renormalised-once : (p : Terms) (s : List ℕ) (n : ℕ) (x y : List ℕ)
     → Once (λ (r : With Answer). Renormalised p s n x y (r .0) (r .1) (r .2))
 renormalised-once p s n x y a b h g =
-    same-outcome a b (h .answers ∙ sym (g .answers)) (h .once ∙ sym (g .once)) (h .twice ∙ sym (g .twice))
+    same-outcome a b (answer-is (a .0) (b .0) (h .answers ∙ sym (g .answers))) (h .once ∙ sym (g .once)) (h .twice ∙ sym (g .twice))
 
 pub says-same-once : (p : Terms) (s : List ℕ) (n : ℕ) (t : List ℕ) (m : ℕ) (x y : List ℕ)
     → Once (λ (r : With Alike). SaysSame p s n t m x y (r .0) (r .1) (r .2))
 says-same-once p s n t m x y a b h g =
-    same-outcome a b (h .answers ∙ sym (g .answers)) (h .first ∙ sym (g .first)) (h .second ∙ sym (g .second))
+    same-outcome a b (alike-is (a .0) (b .0) (h .answers ∙ sym (g .answers))) (h .first ∙ sym (g .first)) (h .second ∙ sym (g .second))

@@ -7,6 +7,7 @@ use Prim.Native.Nat.{ℕ, _≤_}
 use lib.Dec.{eqb, leb}
 use lib.ListN.{length}
 use Rattle.format.specs.Normal.{normal}
+use Rattle.format.specs.Refusals as refusals
 use Rattle.format.specs.Rules.{Terms}
 use Rattle.format.specs.Telegrams.{Entry, Result, bits}
 use Rattle.format.specs.Telegrams.Result.{accepted, refused}
@@ -27,7 +28,7 @@ renormaliseInto p s n x y = roomed 104 y (normaliseInto p s n x)
 
 -- the promise of `renormalised`: n comes back, with the same normal form in front of what x held and of what y held
 pub record Renormalised (p : Terms) (s : List ℕ) (n : ℕ) (x y : List ℕ) (answer : Answer) (x-after y-after : List ℕ) : Type 0 where
-  pub answers : answer ≡ answered (λ es. n) (renormaliseInto p s n (length x) (length y))
+  pub answers : refusals.inNumbers answer ≡ refusals.inNumbers (answered (λ es. n) (renormaliseInto p s n (length x) (length y)))
   pub once : x-after ≡ bytesOver (renormaliseInto p s n (length x) (length y)) x
   pub twice : y-after ≡ bytesOver (renormaliseInto p s n (length x) (length y)) y
 
@@ -64,6 +65,14 @@ alike (both es fs) = cond (same (bits (normal es)) (bits (normal fs))) Same Othe
 alike (first r) = First r
 alike (second r) = Second r
 
+-- "When an answer is an enum, a definition specifies this paper's number and values for each of its cases": which telegram is refused, and by which number
+-- and where; none, and then 0 where they say the same and 1 where they do not. `alike-is` in proofs/Numbers.antt says that an answer is known by them.
+abbrev pub inNumbers : Alike → ℕ × ℕ × ℕ
+inNumbers Same = (0, 0, 0)
+inNumbers Other = (0, 0, 1)
+inNumbers (First r) = (1, refusals.numberOf (r .kind), r .place)
+inNumbers (Second r) = (2, refusals.numberOf (r .kind), r .place)
+
 -- the normal form of each in front of what was there; "A refusal .. changes no output", not of the other one either
 abbrev pub firstOver : Pair → List ℕ → List ℕ
 firstOver (both es fs) before = bytesOver (accepted (normal es)) before
@@ -77,7 +86,7 @@ secondOver (second r) before = before
 
 -- the promise of `says_same`
 pub record SaysSame (p : Terms) (s : List ℕ) (n : ℕ) (t : List ℕ) (m : ℕ) (x y : List ℕ) (answer : Alike) (x-after y-after : List ℕ) : Type 0 where
-  pub answers : answer ≡ alike (pairInto p s n t m (length x) (length y))
+  pub answers : inNumbers answer ≡ inNumbers (alike (pairInto p s n t m (length x) (length y)))
   pub first : x-after ≡ firstOver (pairInto p s n t m (length x) (length y)) x
   pub second : y-after ≡ secondOver (pairInto p s n t m (length x) (length y)) y
 

@@ -16,6 +16,7 @@ use Rattle.sheet.specs.Rows.{sheetText}
 use Rattle.sheet.specs.Sheets.{lengthOf, sheetOver, exported, Export}
 use Rattle.sheet.specs.declared.Reply.{Reply}
 use Rattle.sheet.specs.declared.Reply.the-variants.{Done, Refused, Row}
+use Rattle.sheet.proofs.Numbers.{export-answer}
 use Rattle.states.specs.Reader.{atOnce, checked}
 use Rattle.printed.specs.Printed.{told, sheetOr, outText, outInto}
 use Rattle.line_text.specs.Lines.{lineLength, refusal}
@@ -34,7 +35,7 @@ pub export-told : {s before after : List ℕ} {n : ℕ} {reply : Reply} (r : Res
 unfolding exported
 export-told {s} {before} {after} {n} {reply} r room e h =
     let all : exported paper s n (length before) ≡ r = rw (le-leb 65536 (length before) room) e in
-    (h .answers ∙ ap lengthOf all, h .contents ∙ ap (λ (x : Result). sheetOver x before) all)
+    (export-answer h ∙ ap lengthOf all, h .contents ∙ ap (λ (x : Result). sheetOver x before) all)
 
 -- what is refused at once leaves what is lent
 pub untold : {reply : Reply} (r : Result) (before : List ℕ) → reply ≡ lengthOf (atOnce Size) → atOnce Size ≡ r

@@ -18,6 +18,7 @@ use Rattle.sheet.specs.Sheets.{Imported, imported, importInto, sizeOf, bytesOve
 use Rattle.sheet.specs.Sheets.Imported.{taken, refusedBy, refusedAt}
 use Rattle.sheet.specs.declared.Reply.{Reply}
 use Rattle.sheet.specs.declared.Reply.the-variants.{Done, Refused, Row}
+use Rattle.sheet.proofs.Numbers.{import-answer}
 use Rattle.printed_in.specs.Sheet.{lineOr, inText, inInto}
 use Rattle.line_text.specs.Characters.{charactersInto}
 use Rattle.packing.specs.Packing.{characters}
@@ -57,7 +58,7 @@ module _ (input before s : List ℕ) (reply : Reply) (room : length before ≡ 1
   into = rw (le-leb 104 (length before) (omega arith))
 
   in-is : reply ≡ sizeOf (imported paper input)
-  in-is = h .answers ∙ ap sizeOf into
+  in-is = import-answer h ∙ ap sizeOf into
 
   pub in-done : (n : ℕ) → reply ≡ Done n → InLine input s n
   unfolding inText

@@ -20,6 +20,7 @@ use Rattle.queue_text.specs.Texts.{refusalText}
 use Rattle.states.specs.Normaliser.{normalOf, normaliseInto, Normalise}
 use Rattle.states.specs.Reader.{checked, readInto, answerOf, valuesOver, Read}
 use Rattle.states.specs.Writer.{writeInto, sizeOf, bytesOver, Write}
+use Rattle.states.proofs.Answered.{read-answer, write-answer, normalise-answer}
 use Rattle.replies.specs.Replies.{valuesOr, bitsOr, readText, normalText, writeText}
 
 -- ---- bits
@@ -52,13 +53,13 @@ module _ {before after : List ℕ} {a : Answer} (l : length before ≡ 104) wher
   pub written-as : (vs : List ℕ) → Write paper vs before a after → sentText (bitsOf after) a ≡ writeText vs
   unfolding writeText
   written-as vs h =
-      ap₂ (λ (out : List ℕ) (x : Answer). sentText (bitsOf out) x) (h .contents) (h .answers) ∙ sent-as (writeInto paper vs (length before)) before
+      ap₂ (λ (out : List ℕ) (x : Answer). sentText (bitsOf out) x) (h .contents) (write-answer h) ∙ sent-as (writeInto paper vs (length before)) before
       ∙ ap bitsOr (write-into vs (length before) (omega arith))
 
   pub normal-as : (s : List ℕ) (n : ℕ) → Normalise paper s n before a after → sentText (bitsOf after) a ≡ normalText s n
   unfolding normalText
   normal-as s n h =
-      ap₂ (λ (out : List ℕ) (x : Answer). sentText (bitsOf out) x) (h .contents) (h .answers)
+      ap₂ (λ (out : List ℕ) (x : Answer). sentText (bitsOf out) x) (h .contents) (normalise-answer h)
       ∙ sent-as (normaliseInto paper s n (length before)) before ∙ ap bitsOr (normalise-into s n (length before) (omega arith))
 
 -- ---- values
@@ -88,13 +89,13 @@ module _ (s : List ℕ) (n : ℕ) (before after : List ℕ) (a : Answer) (l : le
   into = rw (le-leb 830 (length before) (omega arith))
 
   pub read-within : (count : ℕ) → a ≡ Accepted count → count ≤ length after
-  read-within count e = within (readInto paper s n (length before)) before after count (h .contents) (sym (h .answers) ∙ e)
+  read-within count e = within (readInto paper s n (length before)) before after count (h .contents) (sym (read-answer h) ∙ e)
 
   pub read-listed : (count : ℕ) → a ≡ Accepted count → listed (take count after) ≡ readText s n
   unfolding readText
   read-listed count e =
-      listed-as (readInto paper s n (length before)) before after count (h .contents) (sym (h .answers) ∙ e) ∙ ap valuesOr into
+      listed-as (readInto paper s n (length before)) before after count (h .contents) (sym (read-answer h) ∙ e) ∙ ap valuesOr into
 
   pub read-refused : (r : Refusal) → a ≡ Refused r → refusalText r ≡ readText s n
   unfolding readText
-  read-refused r e = refused-as (readInto paper s n (length before)) r (sym (h .answers) ∙ e) ∙ ap valuesOr into
+  read-refused r e = refused-as (readInto paper s n (length before)) r (sym (read-answer h) ∙ e) ∙ ap valuesOr into

@@ -19,10 +19,11 @@ use Rattle.format.specs.declared.Answer.the-variants.{Accepted, Refused}
 use Rattle.laws.proofs.Demand2.{write-is}
 use Rattle.states.specs.Labels.{numbers, labelInto, numbersOver, Label}
 use Rattle.states.specs.Writer.{writeInto, Write}
+use Rattle.states.proofs.Answered.{label-answer}
 use Rattle.states.proofs.Checking.{was-refused}
 use Rattle.states.proofs.Writing.{Written, written}
 use Rattle.states.specs.Writer as writer
-use Rattle.sheet.specs.Sheets.{Imported, named, judged, onSheet, imported, importInto, sizeOf, bytesOver, Import}
+use Rattle.sheet.specs.Sheets.{inNumbers, Imported, named, judged, onSheet, imported, importInto, sizeOf, bytesOver, Import}
 use Rattle.sheet.specs.Sheets.Imported.{taken, refusedBy, refusedAt}
 use Rattle.sheet.specs.Steps.{rowsRead, FewRows, columnsInto, Judged, Other, Collected}
 use Rattle.sheet.specs.declared.Reply.{Reply}
@@ -39,7 +40,7 @@ module _ {vs due after : List ℕ} {a : Answer} (l : Label paper vs due a after)
   into = rw (le-leb 830 (length due) h)
 
   label-answers : a ≡ writer.sizeOf (write paper vs)
-  label-answers = l .answers ∙ ap writer.sizeOf into
+  label-answers = label-answer l ∙ ap writer.sizeOf into
 
   pub label-refused : {x : Refusal} → a ≡ Refused x → write paper vs ≡ refused x
   label-refused {x} q = was-refused bitCount (write paper vs) a x label-answers q
@@ -69,7 +70,7 @@ module _ (ks vs before : List ℕ) where
 
     judged-as : (j : Imported) → judged ks (write paper vs) ≡ j → Judged ks vs before (sizeOf j) (bytesOver j before)
     judged-as j e =
-        record { answers = ap sizeOf (sym (columns-are ∙ e)); contents = ap (λ (x : Imported). bytesOver x before) (sym (columns-are ∙ e)) }
+        record { answers = ap (λ (x : Imported). inNumbers (sizeOf x)) (sym (columns-are ∙ e)); contents = ap (λ (x : Imported). bytesOver x before) (sym (columns-are ∙ e)) }
 
     pub judges-refused : {x : Refusal} → write paper vs ≡ refused x → Judged ks vs before (reply.Refused x) before
     judges-refused {x} e = judged-as (refusedBy x) (ap (judged ks) e)
@@ -91,7 +92,7 @@ module _ (ks vs before : List ℕ) where
       judges-taken z {b} {after} w {n} size =
           let taken-is : columnsInto paper ks vs (length before) ≡ taken es = columns-are ∙ first ∙ rw (eq-eqb r 0 z) in
           record {
-            answers = ap reply.Done size ∙ ap sizeOf (sym taken-is);
+            answers = ap inNumbers (ap reply.Done size ∙ ap sizeOf (sym taken-is));
             contents =
                 w .contents ∙ ap (λ (x : Result). writer.bytesOver x before) wrote ∙ ap (λ (x : Imported). bytesOver x before) (sym taken-is);
           }
@@ -125,6 +126,6 @@ module _ (text before : List ℕ) where
       pub imports-judged : {a : Reply} {after : List ℕ} → Judged (take n ks) (take n vs) before a after → Import paper text before a after
       imports-judged j =
           record {
-            answers = j .answers ∙ ap sizeOf (sym here);
+            answers = j .answers ∙ ap (λ (x : Imported). inNumbers (sizeOf x)) (sym here);
             contents = j .contents ∙ ap (λ (x : Imported). bytesOver x before) (sym here);
           }

@@ -2,6 +2,7 @@
 pub mod Table
 pub mod Texts
 pub mod Fronts
+pub mod Numbers
 pub mod Columns
 pub mod Gathering
 pub mod Judgement

@@ -18,12 +18,13 @@ use Rattle.laws.proofs.Demand2.{writes, room}
 use Rattle.laws.proofs.Listed.{AllKnown, telegram-listed, known-number}
 use Rattle.states.specs.Labels.{numbers, numbersIn, Label}
 use Rattle.states.specs.Reader.{checked, readInto, answerOf, valuesOver, Read}
+use Rattle.states.proofs.Answered.{read-answer}
 use Rattle.states.proofs.Answers.{values-bits}
 use Rattle.states.proofs.Checking.{AcceptedAs, was-accepted, was-refused, holds}
 use Rattle.pieces.specs.Pieces.{Appended, Grown}
 use Rattle.pieces.proofs.Starts.{grown-none, grows}
 use Rattle.sheet.specs.Rows.{heading, rowText, sheetText}
-use Rattle.sheet.specs.Sheets.{exported, lengthOf, sheetOver, Export}
+use Rattle.sheet.specs.Sheets.{inNumbers, exported, lengthOf, sheetOver, Export}
 use Rattle.sheet.specs.Steps.{entriesOf, Columns, RowsPut, Listing, Wrote}
 use Rattle.sheet.specs.declared.Reply.{Reply}
 use Rattle.sheet.specs.declared.Reply.the-variants as reply
@@ -105,7 +106,7 @@ module _ (s : List ℕ) (n : ℕ) (before : List ℕ) where
     read-into = rw (le-leb 830 (length run) g)
 
     read-answers : a ≡ answerOf (checked paper s n)
-    read-answers = r .answers ∙ ap answerOf read-into
+    read-answers = read-answer r ∙ ap answerOf read-into
 
     pub exports-refused : {x : Refusal} → a ≡ Refused x → 65536 ≤ length before → Export paper s n before (reply.Refused x) before
     exports-refused {x} q h =
@@ -138,6 +139,6 @@ module _ (s : List ℕ) (n : ℕ) (before : List ℕ) where
       exports-written {b} {final} h w =
           let e = into h ∙ accepted-as .is in
           record {
-            answers = w .answers es tel listed ∙ ap lengthOf (sym e);
+            answers = ap inNumbers (w .answers es tel listed ∙ ap lengthOf (sym e));
             contents = w .contents es tel listed ∙ ap (λ (x : Result). sheetOver x before) (sym e);
           }

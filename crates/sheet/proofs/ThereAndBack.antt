@@ -23,6 +23,7 @@ use Rattle.sheet.specs.Sheets.{Imported, exported, lengthOf, sheetOver, 
 use Rattle.sheet.specs.Sheets.Imported.{taken, refusedBy, refusedAt}
 use Rattle.sheet.specs.declared.Reply.{Reply}
 use Rattle.sheet.specs.declared.Reply.the-variants.{Done}
+use Rattle.sheet.proofs.Numbers.{export-answer, import-answer}
 use Rattle.sheet.proofs.Back.{sheet-back, only-sheets, telegram-back}
 
 -- ---- what a reply says of what was done
@@ -71,7 +72,7 @@ module _ (p : Terms) where
       → Import p (take m after) out reply back → 104 ≤ length out → (reply ≡ Done n) × (back ≡ s ++ drop (length s) out)
   unfolding importInto
   import-exported {s} {text} {after} {out} {back} {n} {m} {reply} b x i h =
-      let w = written p s n (length text) m (x .answers) in
+      let w = written p s n (length text) m (export-answer x) in
       let a : Sound p s n (w .entries) = check-judges p s n .accepts (w .entries) .0 (exported-checked s n (length text) (w .entries) (w .is)) in
       let sheet : take m after ≡ sheetText (w .entries) =
       ap (take m) (x .contents ∙ ap (λ (r : Result). sheetOver r text) (w .is))
@@ -80,7 +81,7 @@ module _ (p : Terms) where
       rw (le-leb 104 (length out) h) (ap (imported p) sheet ∙ sheet-back p (a .telegram)) in
       let size : bitCount (w .entries) ≡ n = sym (length-bits (w .entries)) ∙ sent p s n (w .entries) a in
       let bytes : bytesOf (bits (w .entries)) ≡ s = same-bytes p s n (w .entries) a b in (
-        i .answers ∙ ap sizeOf again ∙ ap Done size,
+        import-answer i ∙ ap sizeOf again ∙ ap Done size,
         i .contents ∙ ap (λ (r : Imported). bytesOver r out) again ∙ ap (λ (l : List ℕ). l ++ drop (length l) out) bytes,
       )
 
@@ -88,7 +89,7 @@ module _ (p : Terms) where
   pub export-imported : {text out after run back : List ℕ} {n : ℕ} {reply : Reply} → Import p text out (Done n) after
       → Export p (take (bytesFor n) after) n run reply back → 65536 ≤ length run → (reply ≡ Done (length text)) × (back ≡ text ++ drop (length text) run)
   export-imported {text} {out} {after} {run} {back} {n} {reply} i x h =
-      let w = held p text (length out) n (i .answers) in
+      let w = held p text (length out) n (import-answer i) in
       let t = only-sheets p text (w .entries) (w .is) in
       let bytes : take (bytesFor n) after ≡ bytesOf (bits (w .entries)) =
       ap (take (bytesFor n)) (i .contents ∙ ap (λ (r : Imported). bytesOver r out) (w .into))
@@ -97,6 +98,6 @@ module _ (p : Terms) where
       let again : exported p (take (bytesFor n) after) n (length run) ≡ accepted (w .entries) =
       ap (λ (l : List ℕ). exported p l n (length run)) bytes
       ∙ ap (λ (k : ℕ). exported p (bytesOf (bits (w .entries))) k (length run)) (w .size) ∙ b .0 in (
-        x .answers ∙ ap lengthOf again ∙ ap (λ (l : List ℕ). Done (length l)) (b .1),
+        export-answer x ∙ ap lengthOf again ∙ ap (λ (l : List ℕ). Done (length l)) (b .1),
         x .contents ∙ ap (λ (r : Result). sheetOver r run) again ∙ ap (λ (l : List ℕ). l ++ drop (length l) run) (b .1),
       )

@@ -35,6 +35,11 @@ valueOf (Done n) = n
 valueOf (Refused r) = r .place
 valueOf (Row k) = k
 
+-- "When an answer is an enum, a definition specifies this paper's number and values for each of its cases": a reply is known by them
+-- (`reply-is` in proofs/Numbers.antt)
+abbrev pub inNumbers : Reply → ℕ × ℕ
+inNumbers reply = (numberOf reply, valueOf reply)
+
 -- ---- export
 
 -- "1 for a text output under 65,536 bytes .. in export the reader's"
@@ -51,7 +56,7 @@ sheetOver (refused r) before = before
 
 -- the promise of `export`
 pub record Export (p : Terms) (s : List ℕ) (n : ℕ) (before : List ℕ) (reply : Reply) (after : List ℕ) : Type 0 where
-  pub answers : reply ≡ lengthOf (exported p s n (length before))
+  pub answers : inNumbers reply ≡ inNumbers (lengthOf (exported p s n (length before)))
   pub contents : after ≡ sheetOver (exported p s n (length before)) before
 
 -- ---- import
@@ -100,5 +105,5 @@ bytesOver (refusedAt k) before = before
 
 -- the promise of `import`
 pub record Import (p : Terms) (text before : List ℕ) (reply : Reply) (after : List ℕ) : Type 0 where
-  pub answers : reply ≡ sizeOf (importInto p text (length before))
+  pub answers : inNumbers reply ≡ inNumbers (sizeOf (importInto p text (length before)))
   pub contents : after ≡ bytesOver (importInto p text (length before)) before

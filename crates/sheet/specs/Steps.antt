@@ -16,7 +16,7 @@ use Rattle.pieces.specs.Pieces.{begins, Grown}
 use Rattle.sheet.specs.Rows.{labelText, rowText, fieldOf, entryOf, labels, starts}
 use Rattle.sheet.specs.Reading.{Row, Rows, labelIn, sheetIn}
 use Rattle.sheet.specs.Reading.Rows.{rows, bad}
-use Rattle.sheet.specs.Sheets.{Imported, lengthOf, sheetOver, otherName, judged, sizeOf, bytesOver}
+use Rattle.sheet.specs.Sheets.{inNumbers, Imported, lengthOf, sheetOver, otherName, judged, sizeOf, bytesOver}
 use Rattle.sheet.specs.Sheets.Imported.{refusedBy}
 use Rattle.sheet.specs.declared.Reply.{Reply}
 use Rattle.sheet.specs.declared.Row.the-variants.{Is, Bad}
@@ -101,7 +101,7 @@ columnsInto p ks vs room = cond (leb 104 room) (judged ks (write p vs)) (refused
 
 -- the promise of `judge`
 pub record Judged (ks vs before : List ℕ) (reply : Reply) (after : List ℕ) : Type 0 where
-  pub answers : reply ≡ sizeOf (columnsInto paper ks vs (length before))
+  pub answers : inNumbers reply ≡ inNumbers (sizeOf (columnsInto paper ks vs (length before)))
   pub contents : after ≡ bytesOver (columnsInto paper ks vs (length before)) before
 
 -- the first row with another number than is due, 0 if there is none

@@ -1,29 +1,13 @@
 -- What C is answered says it all: 0 just where the telegram is accepted, and otherwise the refusal's number and its place. Assumes nothing.
 use mathlib.Core.Path.{_≡_, refl}
-use Prim.Native.Nat.{ℕ, _/_, _%_, _≤_}
+use Prim.Native.Nat.{ℕ, _/_, _%_}
 use native.Mathlib.Omega.{arith}
 use Rattle.format.specs.Refusals.{numberOf, codeOf}
 use Rattle.format.specs.declared.Answer.{Answer}
 use Rattle.format.specs.declared.Answer.the-variants.{Accepted, Refused}
-use Rattle.format.specs.declared.Kind.{Kind}
-use Rattle.format.specs.declared.Kind.the-variants.{Room, Size, Padding, Header, Ended, Unknown, Value, Length, Direction, Repeated, Trailing, Wide, Full}
 use Rattle.format.specs.declared.Refusal.{Refusal}
+use Rattle.format.proofs.Numbers.{number-in}
 use Rattle.sinkerpost.specs.Codes.{Placed}
-
-pub number-in : (k : Kind) → (1 ≤ numberOf k) × (numberOf k ≤ 13)
-number-in Room = (omega arith, omega arith)
-number-in Size = (omega arith, omega arith)
-number-in Padding = (omega arith, omega arith)
-number-in Header = (omega arith, omega arith)
-number-in Ended = (omega arith, omega arith)
-number-in Unknown = (omega arith, omega arith)
-number-in Value = (omega arith, omega arith)
-number-in Length = (omega arith, omega arith)
-number-in Direction = (omega arith, omega arith)
-number-in Repeated = (omega arith, omega arith)
-number-in Trailing = (omega arith, omega arith)
-number-in Wide = (omega arith, omega arith)
-number-in Full = (omega arith, omega arith)
 
 module _ (r : Refusal) (h : Placed (Refused r)) where
   pub number-back : codeOf (Refused r) / 1024 ≡ numberOf (r .kind)

@@ -11,7 +11,7 @@ use native.Mathlib.Omega.{arith}
 use borrow.Author.Tests.{leb-true, leb-false, le-leb, lt-leb, eqb-true, eq-eqb}
 use lib.Dec.{eqb, leb}
 use lib.Pow.{pow-pos}
-use lib.ListN.{length, take, drop, getD, length-append}
+use lib.ListN.{length, take, drop, length-append}
 use lib.Seq.{length-take-le, length-front, take-append-seam, drop-append-seam}
 use Rattle.bits.specs.Bits.{digits, valueOf, bitsOf, bytesFor, Below}
 use Rattle.bits.proofs.Digits.{length-digits}
@@ -24,7 +24,7 @@ use Rattle.format.specs.Telegrams.{Entry, Result, Telegram, bits, values, value
 use Rattle.format.specs.Telegrams.Taken.{lacks}
 use Rattle.format.specs.Telegrams.Result.{accepted, refused}
 use Rattle.format.specs.declared.Kind.{Kind}
-use Rattle.format.specs.declared.Kind.the-variants.{Room, Size, Padding, Header, Ended, Unknown, Value, Length, Direction, Repeated, Trailing, Wide, Full}
+use Rattle.format.specs.declared.Kind.the-variants.{Room, Size, Padding, Ended}
 use Rattle.format.specs.declared.Refusal.{Refusal}
 use Rattle.laws.proofs.Refused.{Refused, Decides, read-decides}
 use Rattle.laws.proofs.Refused.Refused.{lacking, breaking, trailing, later}
@@ -32,6 +32,7 @@ use Rattle.laws.proofs.Sources.{width-positive}
 use Rattle.laws.proofs.Tile.{Tiled, tiled, bitCounts}
 use Rattle.states.specs.Reader.{sized, clear, checked, readInto, answerOf, valuesOver, Read}
 use Rattle.laws.proofs.Order.{of-value-number, onward-breaks, broken-of-value, ruleDue, notedAt}
+use Rattle.states.proofs.Answered.{read-answer}
 use Rattle.format.specs.declared.Answer.the-variants as Answers
 
 -- ---- which number is given when
@@ -235,7 +236,7 @@ module _ (p : Terms) (s : List ℕ) (n : ℕ) (before after : List ℕ) where
   -- "A refusal .. changes no output"
   pub refused-keeps : (r : Refusal) → Read p s n before (Answers.Refused r) after → after ≡ before
   refused-keeps r h =
-      h .contents ∙ ap (λ (a : Result). valuesOver a before) (answer-refused (readInto p s n (length before)) r .0 (h .answers))
+      h .contents ∙ ap (λ (a : Result). valuesOver a before) (answer-refused (readInto p s n (length before)) r .0 (read-answer h))
 
   stored : (es : List Entry) (count : ℕ) → count ≡ length (values es) → after ≡ values es ++ drop (length (values es)) before
       → length (values es) ≤ length before → Stored es count before after
@@ -252,7 +253,7 @@ module _ (p : Terms) (s : List ℕ) (n : ℕ) (before after : List ℕ) where
   pub accepted-stores : (count : ℕ) → Read p s n before (Answers.Accepted count) after
       → (es : List Entry) × (checked p s n ≡ accepted es) × Stored es count before after
   accepted-stores count h =
-      let g = answer-accepted (readInto p s n (length before)) count .0 (h .answers) in
+      let g = answer-accepted (readInto p s n (length before)) count .0 (read-answer h) in
       let es = g .0 in
       let a = read-judges p s n (length before) .accepts es .0 (g .1) in
       let room = a .0 in
@@ -265,29 +266,6 @@ module _ (p : Terms) (s : List ℕ) (n : ℕ) (before after : List ℕ) where
       )
 
 -- ---- each number by its own rule
-
--- a kind is known by its number
-kindOf : ℕ → Kind
-kindOf n = getD (Room ∷ Room ∷ Size ∷ Padding ∷ Header ∷ Ended ∷ Unknown ∷ Value ∷ Length ∷ Direction ∷ Repeated ∷ Trailing ∷ Wide ∷ Full ∷ []) n Room
-
-kind-is : (k : Kind) → kindOf (numberOf k) ≡ k
-unfolding kindOf
-kind-is Room = refl
-kind-is Size = refl
-kind-is Padding = refl
-kind-is Header = refl
-kind-is Ended = refl
-kind-is Unknown = refl
-kind-is Value = refl
-kind-is Length = refl
-kind-is Direction = refl
-kind-is Repeated = refl
-kind-is Trailing = refl
-kind-is Wide = refl
-kind-is Full = refl
-
-pub number-once : (j k : Kind) → numberOf j ≡ numberOf k → j ≡ k
-number-once j k h = sym (kind-is j) ∙ ap kindOf h ∙ kind-is k
 
 -- a field gives none of 1, 2 and 3
 module _ (p : Terms) where

@@ -10,12 +10,14 @@ use lib.Dec.{eqb}
 use lib.ListN.{length, take, drop, getD, replicate}
 use Rattle.bits.specs.Bits.{digits, valueOf, bitsOf}
 use Rattle.format.specs.Packets.{_⧺_, times, header, etcs, ctcs, find}
+use Rattle.format.specs.Refusals.{inNumbers}
 use Rattle.format.specs.Rules.{begun, next, misdirected, broken, noted, closes, settled, onward, step, radioFrom, spotOf, spotAt, placeFrom, fieldPlace, clash, among, collidesBy, paper}
 use Rattle.format.specs.Telegrams.{Result, read, fromBits, drive, valuesIn}
 use Rattle.format.specs.Telegrams.Result.{accepted, refused}
 use Rattle.format.specs.declared.Answer.the-variants.{Accepted, Refused}
 use Rattle.format.specs.declared.Kind.the-variants.{Length}
 use Rattle.format.specs.declared.Refusal.{Refusal}
+use Rattle.format.proofs.Numbers.{answer-is}
 use Rattle.states.specs.Reader.{checked, readInto, answerOf, valuesOver, Read}
 
 -- what the check answers, computed
@@ -36,13 +38,13 @@ one-accepted = refl
 
 -- ---- one that refuses everything
 
-pub refuses-everything : (why : List ℕ → ℕ → Refusal) → ((s : List ℕ) (n : ℕ) → Refused (why s n) ≡ answerOf (checked paper s n)) → ⊥
-refuses-everything why h = let e = h one 58 ∙ one-accepted in let z : _≡_ {A = ℕ} 0 1 = cc in omega arith
+pub refuses-everything : (why : List ℕ → ℕ → Refusal) → ((s : List ℕ) (n : ℕ) → inNumbers (Refused (why s n)) ≡ inNumbers (answerOf (checked paper s n))) → ⊥
+refuses-everything why h = let e = answer-is (Refused (why one 58)) _ (h one 58) ∙ one-accepted in let z : _≡_ {A = ℕ} 0 1 = cc in omega arith
 
 -- ---- one that invents the count
 
-pub invents-the-count : (k : ℕ) → k ≢ 11 → Accepted k ≡ answerOf (checked paper one 58) → ⊥
-invents-the-count k d h = let e = h ∙ one-accepted in d cc
+pub invents-the-count : (k : ℕ) → k ≢ 11 → inNumbers (Accepted k) ≡ inNumbers (answerOf (checked paper one 58)) → ⊥
+invents-the-count k d h = let e = answer-is (Accepted k) _ h ∙ one-accepted in d cc
 
 -- ---- one that stores the same values whatever it reads
 
@@ -92,9 +94,9 @@ unread-refused : checked paper unread 113 ≡ refused (record { kind = Length; p
 unfolding computed
 unread-refused = refl
 
-pub skips-the-rest : ((s : List ℕ) (n : ℕ) → skims (take n (bitsOf s)) ≡ true → (count : ℕ) × (Accepted count ≡ answerOf (checked paper s n))) → ⊥
+pub skips-the-rest : ((s : List ℕ) (n : ℕ) → skims (take n (bitsOf s)) ≡ true → (count : ℕ) × (inNumbers (Accepted count) ≡ inNumbers (answerOf (checked paper s n)))) → ⊥
 skips-the-rest h =
     let a = h unread 113 unread-skimmed in
-    let e = a .1 ∙ ap answerOf unread-refused in
+    let e = answer-is (Accepted (a .0)) _ (a .1) ∙ ap answerOf unread-refused in
     let z : _≡_ {A = ℕ} 0 1 = cc in
     omega arith

@@ -10,6 +10,7 @@ use lib.ListN.{length, take}
 use lib.Seq.{length-take-le}
 use Rattle.bits.specs.Bits.{bitsOf, bytesFor}
 use Rattle.bits.proofs.Bytes.{length-bitsOf, below-bitsOf, below-take}
+use Rattle.format.specs.Refusals.{inNumbers}
 use Rattle.format.specs.Rules.{Terms, paper}
 use Rattle.format.specs.Telegrams.{values, Entry, Result, Telegram, bits, read}
 use Rattle.format.specs.Telegrams.Result.{accepted, refused}
@@ -120,11 +121,11 @@ module _ (s : List ℕ) (n : ℕ) (before : List ℕ) where
     into = rw (le-leb 830 (length before) h)
 
     pub reads-refused : (a : Answer) (x : Refusal) → a ≡ answerOf (checked paper s n) → a ≡ Refused x → Read paper s n before a before
-    reads-refused a x p q = record { answers = rw into p; contents = rw (into, was-refused counted (checked paper s n) a x p q) }
+    reads-refused a x p q = record { answers = rw into (ap inNumbers p); contents = rw (into, was-refused counted (checked paper s n) a x p q) }
 
     pub reads-accepted : (a : Answer) (k : ℕ) (after : List ℕ) → a ≡ answerOf (checked paper s n) → a ≡ Accepted k
         → Filled s n before after → Read paper s n before a after
     reads-accepted a k after p q f =
         let w = was-accepted counted (checked paper s n) a k p q in
         let g = holds s n (w .entries) (w .is) in
-        record { answers = rw into p; contents = rw (into, w .is) (f (w .entries) (g .telegram) (g .same)) }
+        record { answers = rw into (ap inNumbers p); contents = rw (into, w .is) (f (w .entries) (g .telegram) (g .same)) }

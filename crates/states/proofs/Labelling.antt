@@ -7,6 +7,7 @@ use native.Mathlib.Nat.{add-zero}
 use native.Mathlib.Omega.{arith}
 use borrow.Author.Tests.{le-leb, lt-leb}
 use lib.ListN.{length, drop, getD, set, length-set}
+use Rattle.format.specs.Refusals.{inNumbers}
 use Rattle.format.specs.Rules.{paper, named}
 use Rattle.format.specs.Telegrams.{Entry, bitCount, write}
 use Rattle.format.specs.Telegrams.Result.{accepted}
@@ -116,7 +117,7 @@ module _ (vs before : List ℕ) where
     into = rw (le-leb 830 (length before) h)
 
     pub labels-refused : {a : Answer} {x : Refusal} → a ≡ sizeOf (write paper vs) → a ≡ Refused x → Label paper vs before a before
-    labels-refused {a} {x} p q = record { answers = rw into p; contents = rw (into, was-refused bitCount (write paper vs) a x p q) }
+    labels-refused {a} {x} p q = record { answers = rw into (ap inNumbers p); contents = rw (into, was-refused bitCount (write paper vs) a x p q) }
 
     module _ {a : Answer} {n : ℕ} (p : a ≡ sizeOf (write paper vs)) (q : a ≡ Accepted n) where
       -- what is labelled is a telegram with these values
@@ -128,4 +129,4 @@ module _ (vs before : List ℕ) where
       pub labels-accepted : (after : List ℕ) → Labelled vs before after → Label paper vs before a after
       labels-accepted after f =
           let w = written vs p q in
-          record { answers = rw into p; contents = rw (into, w .is) (f (w .entries) (w .telegram) (w .same)) }
+          record { answers = rw into (ap inNumbers p); contents = rw (into, w .is) (f (w .entries) (w .telegram) (w .same)) }

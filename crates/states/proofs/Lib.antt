@@ -36,6 +36,7 @@ pub mod Quieting
 pub mod Checking
 pub mod Writing
 pub mod Normalising
+pub mod Answered
 pub mod Answers
 pub mod Rooms
 pub mod Pointing

@@ -10,6 +10,7 @@ use lib.Seq.{take-add}
 use Rattle.bits.specs.Bits.{digits, valueOf, bitsOf, bytesOf, packed, filled}
 use Rattle.format.specs.Normal.{metric, normalUnder}
 use Rattle.format.specs.Packets.{_⧺_, times, header, etcs, ctcs, find}
+use Rattle.format.specs.Refusals.{inNumbers}
 use Rattle.format.specs.Rules.{begun, next, misdirected, broken, noted, closes, settled, onward, step, radioFrom, spotOf, spotAt, placeFrom, fieldPlace, clash, among, collidesBy, paper}
 use Rattle.format.specs.Telegrams.{Entry, Result, read, fromBits, drive, bitsIn}
 use Rattle.format.specs.Telegrams.Result.{accepted, refused}
@@ -19,6 +20,7 @@ use Rattle.laws.proofs.Prefix.{bits-no-prefix}
 use Rattle.states.specs.Reader.{checked}
 use Rattle.states.specs.Writer.{sizeOf, bytesOver}
 use Rattle.states.specs.Normaliser.{normalOf, normaliseInto, Normalise}
+use Rattle.states.proofs.Answered.{normalise-answer}
 use Rattle.states.proofs.Answers.{sized-is, check-judges}
 
 -- bytes enough, all 0
@@ -71,7 +73,7 @@ tenths-stay = refl
 
 -- an honest one meets the promise there
 pub honest : Normalise paper tens 137 lent (Accepted 137) (over metres)
-honest = record { answers = sym answer; contents = sym tens-become }
+honest = record { answers = sym (ap inNumbers answer); contents = sym tens-become }
 
 -- ---- one that copies its input
 
@@ -131,4 +133,4 @@ tells-nothing a h =
 -- ---- one that invents n
 
 pub tells-another-n : (n : ℕ) (after : List ℕ) → n ≢ 137 → Normalise paper tens 137 lent (Accepted n) after → ⊥
-tells-another-n n after d h = let e = h .answers ∙ answer in d cc
+tells-another-n n after d h = let e = normalise-answer h ∙ answer in d cc

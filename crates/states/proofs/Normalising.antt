@@ -5,6 +5,7 @@ use Prim.Native.Nat.{ℕ, _≤_, _<_}
 use borrow.Author.Tests.{le-leb, lt-leb}
 use lib.ListN.{length}
 use Rattle.format.specs.Normal.{normal}
+use Rattle.format.specs.Refusals.{inNumbers}
 use Rattle.format.specs.Rules.{paper}
 use Rattle.format.specs.Telegrams.{Entry, bitCount, values}
 use Rattle.format.specs.declared.Kind.the-variants.{Room}
@@ -35,7 +36,7 @@ module _ (s : List ℕ) (n : ℕ) (before : List ℕ) where
       pub normalises-refused : {x : Refusal} → a ≡ Refused x → Normalise paper s n before a before
       normalises-refused {x} q =
           let r = was-refused counted (checked paper s n) a x p q in
-          record { answers = rw (into, r) q; contents = rw (into, r) refl }
+          record { answers = rw (into, r) (ap inNumbers q); contents = rw (into, r) refl }
 
       module _ {k : ℕ} (q : a ≡ Accepted k) where
         -- what is told is a telegram
@@ -51,6 +52,6 @@ module _ (s : List ℕ) (n : ℕ) (before : List ℕ) where
             let g = holds s n (w .entries) (w .is) in
             let size : n ≡ bitCount (normal (w .entries)) = normal-all {out = before} (record { entries = w .entries; telegram = g .telegram; same = g .same; within = g .within; bytes = g .bytes; clear = g .clear; room = h }) ∙ length-bits (normal (w .entries)) in
             record {
-              answers = rw (into, w .is) (ap Accepted size);
+              answers = rw (into, w .is) (ap (λ (k : ℕ). inNumbers (Accepted k)) size);
               contents = rw (into, w .is) (f (w .entries) (g .telegram) (g .same));
             }

@@ -13,6 +13,7 @@ use Rattle.format.specs.Telegrams.{Result, write, fromValues, drive, bitsIn}
 use Rattle.format.specs.declared.Answer.{Answer}
 use Rattle.format.specs.declared.Answer.the-variants.{Accepted}
 use Rattle.states.specs.Writer.{writeInto, sizeOf, bytesOver, Write}
+use Rattle.states.proofs.Answered.{write-answer}
 
 -- bytes enough, all 0
 abbrev lent : List ℕ
@@ -62,4 +63,4 @@ writes-at-once a after d h = d (h .contents ∙ unended-keeps)
 -- ---- one that invents n
 
 pub invents-n : (n : ℕ) (after : List ℕ) → n ≢ 58 → Write paper one lent (Accepted n) after → ⊥
-invents-n n after d h = let e = h .answers ∙ one-answer in d cc
+invents-n n after d h = let e = write-answer h ∙ one-answer in d cc

@@ -1,9 +1,10 @@
 -- The writer by the tests that it makes: 1, then field by field. Assumes nothing.
-use mathlib.Core.Path.{_≡_}
+use mathlib.Core.Path.{_≡_, ap}
 use mathlib.Core.List.{List}
 use Prim.Native.Nat.{ℕ, _≤_, _<_}
 use borrow.Author.Tests.{le-leb, lt-leb}
 use lib.ListN.{length}
+use Rattle.format.specs.Refusals.{inNumbers}
 use Rattle.format.specs.Rules.{paper}
 use Rattle.format.specs.Telegrams.{Entry, Telegram, bitCount, values, write}
 use Rattle.format.specs.Telegrams.Result.{accepted}
@@ -40,7 +41,7 @@ module _ (vs before : List ℕ) where
     into = rw (le-leb 104 (length before) h)
 
     pub writes-refused : {a : Answer} {x : Refusal} → a ≡ sizeOf (write paper vs) → a ≡ Refused x → Write paper vs before a before
-    writes-refused {a} {x} p q = record { answers = rw into p; contents = rw (into, was-refused bitCount (write paper vs) a x p q) }
+    writes-refused {a} {x} p q = record { answers = rw into (ap inNumbers p); contents = rw (into, was-refused bitCount (write paper vs) a x p q) }
 
     module _ {a : Answer} {n : ℕ} (p : a ≡ sizeOf (write paper vs)) (q : a ≡ Accepted n) where
       -- what is written is a telegram with these values
@@ -52,4 +53,4 @@ module _ (vs before : List ℕ) where
       pub writes-accepted : (after : List ℕ) → Stored vs before after → Write paper vs before a after
       writes-accepted after f =
           let w = written vs p q in
-          record { answers = rw into p; contents = rw (into, w .is) (f (w .entries) (w .telegram) (w .same)) }
+          record { answers = rw into (ap inNumbers p); contents = rw (into, w .is) (f (w .entries) (w .telegram) (w .same)) }

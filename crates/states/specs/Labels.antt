@@ -3,6 +3,7 @@ use mathlib.Core.Path.{_≡_}
 use mathlib.Core.List.{List, [], _∷_, _++_}
 use Prim.Native.Nat.{ℕ, _≤_}
 use lib.ListN.{length, drop}
+use Rattle.format.specs.Refusals.{inNumbers}
 use Rattle.format.specs.Rules.{Terms, paper}
 use Rattle.format.specs.Table.{act, fieldAt, numberBy}
 use Rattle.format.specs.Telegrams.{Entry, Result, Telegram, all, values, write}
@@ -29,7 +30,7 @@ numbersOver (refused r) before = before
 
 -- the promise of `label`
 pub record Label (p : Terms) (vs : List ℕ) (before : List ℕ) (answer : Answer) (after : List ℕ) : Type 0 where
-  pub answers : answer ≡ sizeOf (labelInto p vs (length before))
+  pub answers : inNumbers answer ≡ inNumbers (sizeOf (labelInto p vs (length before)))
   pub contents : after ≡ numbersOver (labelInto p vs (length before)) before
 
 -- ---- the second run, over values that are an accepted telegram

@@ -8,6 +8,7 @@ use lib.ListN.{length, take}
 use Rattle.bits.specs.Bits.{bitsOf, bytesFor}
 use Rattle.format.specs.Normal.{viewOf, choose, decimetres, steps, best, normal}
 use Rattle.format.specs.Normal.View.{kept, scales, measures}
+use Rattle.format.specs.Refusals.{inNumbers}
 use Rattle.format.specs.Rules.{Terms, paper}
 use Rattle.format.specs.Table.{fieldAt}
 use Rattle.format.specs.Telegrams.{Entry, Result, Telegram, bits}
@@ -37,7 +38,7 @@ normaliseInto p s n room = roomed 104 room (normalOf (checked p s n))
 
 -- the promise of `normalise`: n, and the bytes of the normal form in front of what was there
 pub record Normalise (p : Terms) (s : List ℕ) (n : ℕ) (before : List ℕ) (answer : Answer) (after : List ℕ) : Type 0 where
-  pub answers : answer ≡ sizeOf (normaliseInto p s n (length before))
+  pub answers : inNumbers answer ≡ inNumbers (sizeOf (normaliseInto p s n (length before)))
   pub contents : after ≡ bytesOver (normaliseInto p s n (length before)) before
 
 -- ---- the second run, over bits that are an accepted telegram

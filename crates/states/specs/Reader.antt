@@ -6,6 +6,7 @@ use Prim.Native.Nat.{ℕ}
 use lib.Dec.{eqb, leb}
 use lib.ListN.{length, take, drop}
 use Rattle.bits.specs.Bits.{valueOf, bitsOf, bytesFor}
+use Rattle.format.specs.Refusals.{inNumbers}
 use Rattle.format.specs.Rules.{Terms}
 use Rattle.format.specs.Telegrams.{Entry, Result, read, values}
 use Rattle.format.specs.Telegrams.Result.{accepted, refused}
@@ -54,5 +55,5 @@ valuesOver (refused r) before = before
 
 -- the promise of `read`
 pub record Read (p : Terms) (s : List ℕ) (n : ℕ) (before : List ℕ) (answer : Answer) (after : List ℕ) : Type 0 where
-  pub answers : answer ≡ answerOf (readInto p s n (length before))
+  pub answers : inNumbers answer ≡ inNumbers (answerOf (readInto p s n (length before)))
   pub contents : after ≡ valuesOver (readInto p s n (length before)) before

@@ -6,6 +6,7 @@ use Prim.Native.Nat.{ℕ, _^_, _≤_}
 use lib.Dec.{leb, ltb}
 use lib.ListN.{length, drop}
 use Rattle.bits.specs.Bits.{bytesOf}
+use Rattle.format.specs.Refusals.{inNumbers}
 use Rattle.format.specs.Rules.{Terms, paper}
 use Rattle.format.specs.Telegrams.{Entry, Result, Telegram, bits, bitCount, values, write}
 use Rattle.format.specs.Telegrams.Result.{accepted, refused}
@@ -30,7 +31,7 @@ bytesOver (refused r) before = before
 
 -- the promise of `write`
 pub record Write (p : Terms) (vs : List ℕ) (before : List ℕ) (answer : Answer) (after : List ℕ) : Type 0 where
-  pub answers : answer ≡ sizeOf (writeInto p vs (length before))
+  pub answers : inNumbers answer ≡ inNumbers (sizeOf (writeInto p vs (length before)))
   pub contents : after ≡ bytesOver (writeInto p vs (length before)) before
 
 -- a value for a field of w bits that ends at the bit end. "12: .. a value does not fit its field's width"; "13: .. the field would end past bit 830"; "At one

@@ -5,6 +5,7 @@ ghost use mathlib.Core.Path.{_≡_};
 ghost use Prim.Native.Nat.{_*_, _≤_};
 ghost use lib.ListN.{length, take};
 ghost use Rattle.bits.specs.Bits.{bitsOf, bytesFor};
+ghost use Rattle.format.specs.Refusals.{inNumbers};
 ghost use Rattle.format.specs.Rules.{paper};
 ghost use Rattle.format.specs.Telegrams as telegrams;
 ghost use Rattle.states.specs.Reader.{clear, checked, answerOf, Read};
@@ -37,7 +38,7 @@ use states::Todo;
 
 // Whether the bytes and n are a telegram: Accepted with the count of its values, or its refusal.
 pub fn check(s: &[u8], n: usize) -> Answer
-    ensures { λ r. ⌜ r ≡ answerOf (checked paper (now (s .entry)) n) ⌝ }
+    ensures { λ r. ⌜ inNumbers r ≡ inNumbers (answerOf (checked paper (now (s .entry)) n)) ⌝ }
 {
     if !sized(s, n) {
         return refuse(Kind::Size, 0);

@@ -2,6 +2,7 @@
 use mathlib.Core.Path.{refl, sym, _∙_}
 use denote.Ref.{now}
 use lib.Seq.{length-take-le}
+use Rattle.format.proofs.Numbers.{answer-is}
 use Rattle.answers.proofs.Packs.{answer-bits, prefix-fits, answer-other, answer-roomless}
 use borrow.Author.Needs.{needs}
 use Rattle.answers.proofs.answer.Statement.{statement}
@@ -47,7 +48,7 @@ returns : tie.Need-returns
 returns c =
     let p = c .before .before .before .before .before .before .before in
     let a = p .before .before .before .args in
-    c .check .ensures
+    answer-is _ _ (c .check .ensures)
     ∙ answer-bits (now (a .line)) _ (p .pack .result) _ (p .pack .ensures) _ (c .before .before .bytes-for .result) (c .before .before .before .before .n .given .1)
     (c .before .before .bytes-for .ensures)
 

@@ -4,6 +4,7 @@ use borrow.Author.Needs.{needs}
 use denote.Ref.{now}
 use Rattle.format.specs.Rules.{paper}
 use Rattle.states.specs.Reader.{checked}
+use Rattle.format.proofs.Numbers.{answer-is}
 use Rattle.states.proofs.Answers.{answer-accepted, answer-refused}
 use Rattle.normals.proofs.Pairs.{no-room-for-first, no-room-for-other, first-refused, second-refused}
 use Rattle.normals.proofs.says_same.Statement.{statement}
@@ -29,7 +30,7 @@ returns-3 : tie.Need-returns-3
 returns-3 c =
     let a = c .before .before .before .before .before .before .before .before .before .before .args in
     first-refused paper (now (a .s)) (a .n) (now (a .t)) (a .m) (now (a .x)) (now (a .y)) (c .before .before .before .before .before .if1 .left) (c .before .before .before .before .if2 .left)
-    (answer-refused (checked paper (now (a .s)) (a .n)) _ .0 (sym (c .before .r .given .1) ∙ c .before .before .before .check .ensures))
+    (answer-refused (checked paper (now (a .s)) (a .n)) _ .0 (sym (c .before .r .given .1) ∙ answer-is _ _ (c .before .before .before .check .ensures)))
 
 enum-told : tie.Need-enum-told
 enum-told c = search needs
@@ -44,8 +45,8 @@ returns-4 : tie.Need-returns-4
 returns-4 c =
     let a = c .before .before .before .before .before .before .before .before .before .before .before .before .before .args in
     second-refused paper (now (a .s)) (a .n) (now (a .t)) (a .m) (now (a .x)) (now (a .y)) (c .before .before .before .before .before .before .before .before .if1 .left) (c .before .before .before .before .before .before .before .if2 .left)
-    (answer-accepted (checked paper (now (a .s)) (a .n)) _ .0 (sym (c .before .before .before .before .enum-told .given .1) ∙ c .before .before .before .before .before .before .check .ensures) .1)
-    (answer-refused (checked paper (now (a .t)) (a .m)) _ .0 (sym (c .before .r2 .given .1) ∙ c .before .before .before .check2 .ensures))
+    (answer-accepted (checked paper (now (a .s)) (a .n)) _ .0 (sym (c .before .before .before .before .enum-told .given .1) ∙ answer-is _ _ (c .before .before .before .before .before .before .check .ensures)) .1)
+    (answer-refused (checked paper (now (a .t)) (a .m)) _ .0 (sym (c .before .r2 .given .1) ∙ answer-is _ _ (c .before .before .before .check2 .ensures)))
 
 enum-told-2 : tie.Need-enum-told-2
 enum-told-2 c = search needs
@@ -53,8 +54,8 @@ enum-told-2 c = search needs
 compared-requires : tie.Need-compared-requires
 compared-requires c κs =
     let a = c .before .before .before .before .before .before .before .before .before .before .before .before .before .before .args in
-    let f = answer-accepted (checked paper (now (a .s)) (a .n)) _ .0 (sym (c .before .before .before .before .before .enum-told .given .1) ∙ c .before .before .before .before .before .before .before .check .ensures) in
-    let g = answer-accepted (checked paper (now (a .t)) (a .m)) _ .0 (sym (c .before .before .enum-told2 .given .1) ∙ c .before .before .before .before .check2 .ensures) in (
+    let f = answer-accepted (checked paper (now (a .s)) (a .n)) _ .0 (sym (c .before .before .before .before .before .enum-told .given .1) ∙ answer-is _ _ (c .before .before .before .before .before .before .before .check .ensures)) in
+    let g = answer-accepted (checked paper (now (a .t)) (a .m)) _ .0 (sym (c .before .before .enum-told2 .given .1) ∙ answer-is _ _ (c .before .before .before .before .check2 .ensures)) in (
       record { entries = f .0; accepts = f .1; room = c .before .before .before .before .before .before .before .before .before .if1 .left },
       record { entries = g .0; accepts = g .1; room = c .before .before .before .before .before .before .before .before .if2 .left },
     )

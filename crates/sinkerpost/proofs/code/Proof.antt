@@ -7,8 +7,8 @@ use Rattle.format.specs.Refusals.{codeOf}
 use Rattle.format.specs.declared.Answer.{Answer}
 use Rattle.format.specs.declared.Answer.the-variants.{Refused}
 use Rattle.format.specs.declared.Refusal.{Refusal}
+use Rattle.format.proofs.Numbers.{number-in}
 use Rattle.sinkerpost.specs.Codes.{Placed}
-use Rattle.sinkerpost.proofs.Back.{number-in}
 use Rattle.sinkerpost.proofs.code.Statement.{statement}
 use Rattle.sinkerpost.proofs.code.Tie as tie
 

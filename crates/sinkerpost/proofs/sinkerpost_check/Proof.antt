@@ -3,6 +3,9 @@ use mathlib.Core.Path.{sym, ap, subst, _∙_}
 use borrow.Author.Needs.{needs}
 use denote.Ref.{now}
 use Rattle.format.specs.Refusals.{codeOf}
+use Rattle.format.specs.Rules.{paper}
+use Rattle.format.proofs.Numbers.{answer-is}
+use Rattle.states.specs.Reader.{checked, answerOf}
 use Rattle.sinkerpost.specs.Codes.{Placed}
 use Rattle.sinkerpost.proofs.Places.{check-placed}
 use Rattle.sinkerpost.proofs.sinkerpost_check.Statement.{statement}
@@ -14,10 +17,13 @@ check-requires c κs = search needs
 code-requires : tie.Need-code-requires
 code-requires c κs =
     let a = c .before .before .args in
-    subst Placed (sym (c .check .ensures)) (check-placed (now (a .bytes)) _)
+    subst Placed (sym (answer-is (c .check .result) (answerOf (checked paper (now (a .bytes)) (a .n))) (c .check .ensures))) (check-placed (now (a .bytes)) (a .n))
 
 returns : tie.Need-returns
-returns c = c .code .ensures ∙ ap codeOf (c .before .check .ensures)
+returns c =
+    let a = c .before .before .before .args in
+    c .code .ensures
+    ∙ ap codeOf (answer-is (c .before .check .result) (answerOf (checked paper (now (a .bytes)) (a .n))) (c .before .check .ensures))
 
 pub sinkerpost-check-spec : {M : Type 1} → statement M
 sinkerpost-check-spec = tie.close (tie.spec check-requires code-requires returns)

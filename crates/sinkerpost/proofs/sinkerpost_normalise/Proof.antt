@@ -4,6 +4,7 @@ use borrow.Author.Needs.{needs}
 use denote.Ref.{now}
 use lib.ListN.{length}
 use Rattle.format.specs.Refusals.{codeOf}
+use Rattle.states.proofs.Answered.{normalise-answer}
 use Rattle.sinkerpost.specs.Codes.{Placed}
 use Rattle.sinkerpost.proofs.Places.{normalise-placed}
 use Rattle.sinkerpost.proofs.sinkerpost_normalise.Statement.{statement}
@@ -15,7 +16,7 @@ normalise-requires c κs = search needs
 code-requires : tie.Need-code-requires
 code-requires c κs =
     let a = c .before .before .before .before .before .before .args in
-    subst Placed (sym (c .before .before .normalise .ensures .answers)) (normalise-placed (now (a .bytes)) _ (length (now (a .out))))
+    subst Placed (sym (normalise-answer (c .before .before .normalise .ensures))) (normalise-placed (now (a .bytes)) _ (length (now (a .out))))
 
 same-length : tie.Need-same-length
 same-length c = search needs
@@ -23,7 +24,7 @@ same-length c = search needs
 returns : tie.Need-returns
 returns c =
     record {
-      answers = c .code .ensures ∙ ap codeOf (c .before .before .before .normalise .ensures .answers);
+      answers = c .code .ensures ∙ ap codeOf (normalise-answer (c .before .before .before .normalise .ensures));
       contents = c .before .before .before .normalise .ensures .contents;
     }
 

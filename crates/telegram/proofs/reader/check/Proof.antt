@@ -4,6 +4,7 @@ use native.Mathlib.Omega.{arith}
 use borrow.Author.Tests.{not-true, not-false}
 use borrow.Author.Needs.{needs}
 use denote.Ref.{now}
+use Rattle.format.specs.Refusals.{inNumbers}
 use Rattle.format.specs.Rules.{paper}
 use Rattle.states.specs.Reader.{answerOf}
 use Rattle.states.proofs.Checking.{sized-is, checked-size, checked-padding, checked-fields}
@@ -19,7 +20,7 @@ refuse-requires c κs = search needs
 returns : tie.Need-returns
 returns c =
     let a = c .before .before .before .before .args in
-    c .refuse .ensures ∙ sym (ap answerOf (checked-size (now (a .s)) (a .n) paper (sym (c .before .before .sized .ensures) ∙ not-true _ (c .before .if1 .taken))))
+    ap inNumbers (c .refuse .ensures ∙ sym (ap answerOf (checked-size (now (a .s)) (a .n) paper (sym (c .before .before .sized .ensures) ∙ not-true _ (c .before .if1 .taken)))))
 
 clear-requires : tie.Need-clear-requires
 clear-requires c κs =
@@ -33,9 +34,10 @@ refuse-requires-2 c κs = search needs
 returns-2 : tie.Need-returns-2
 returns-2 c =
     let a = c .before .before .before .before .before .before .args in
-    c .refuse2 .ensures
+    ap inNumbers
+    (c .refuse2 .ensures
     ∙ sym (ap answerOf
-    (checked-padding (now (a .s)) (a .n) paper (sym (c .before .before .before .before .sized .ensures) ∙ not-false _ (c .before .before .before .if1 .left)) (sym (c .before .before .clear .ensures) ∙ not-true _ (c .before .if2 .taken))))
+    (checked-padding (now (a .s)) (a .n) paper (sym (c .before .before .before .before .sized .ensures) ∙ not-false _ (c .before .before .before .if1 .left)) (sym (c .before .before .clear .ensures) ∙ not-true _ (c .before .if2 .taken)))))
 
 scan-requires : tie.Need-scan-requires
 scan-requires c κs =
@@ -46,9 +48,10 @@ scan-requires c κs =
 returns-3 : tie.Need-returns-3
 returns-3 c =
     let a = c .before .before .before .before .before .before .args in
-    c .scan .ensures
+    ap inNumbers
+    (c .scan .ensures
     ∙ sym (ap answerOf
-    (checked-fields (now (a .s)) (a .n) paper (sym (c .before .before .before .before .sized .ensures) ∙ not-false _ (c .before .before .before .if1 .left)) (sym (c .before .before .clear .ensures) ∙ not-false _ (c .before .if2 .left))))
+    (checked-fields (now (a .s)) (a .n) paper (sym (c .before .before .before .before .sized .ensures) ∙ not-false _ (c .before .before .before .if1 .left)) (sym (c .before .before .clear .ensures) ∙ not-false _ (c .before .if2 .left)))))
 
 pub check-spec : {M : Type 1} → statement M
 check-spec =
