@@ -1,5 +1,6 @@
 -- `again::rewritten` meets its contract: the values that were read are written as the bytes that they were read from. Assumes nothing.
 use mathlib.Core.Path.{sym}
+use native.Mathlib.Omega.{arith}
 use borrow.Author.Needs.{needs}
 use denote.Ref.{now}
 use lib.Seq.{length-take-le}
@@ -12,7 +13,7 @@ use Rattle.again.proofs.rewritten.Tie as tie
 returns : tie.Need-returns
 returns c =
     let a = c .before .before .before .before .args in
-    no-room-to-write paper (now (a .s)) (a .n) (now (a .run)) (now (a .out)) (c .if1 .taken)
+    no-room-to-write paper (now (a .s)) (a .n) (now (a .run)) (now (a .out)) (omega (arith, c .if1 .taken))
 
 read-requires : tie.Need-read-requires
 read-requires c κs = search needs
@@ -29,7 +30,7 @@ same-length c = search needs
 returns-2 : tie.Need-returns-2
 returns-2 c =
     let a = c .before .before .before .before .before .before .before .before .before .before .args in
-    read-refused paper (now (a .s)) (a .n) (now (a .run)) (now (a .out)) _ (c .before .before .before .before .before .before .if1 .left) (c .before .before .before .before .read .ensures) (c .enum-told .given .1)
+    read-refused paper (now (a .s)) (a .n) (now (a .run)) (now (a .out)) _ (omega (arith, c .before .before .before .before .before .before .if1 .left)) (c .before .before .before .before .read .ensures) (c .enum-told .given .1)
 
 write-requires : tie.Need-write-requires
 write-requires c κs = search needs
@@ -43,7 +44,7 @@ same-length-3 c = search needs
 returns-3 : tie.Need-returns-3
 returns-3 c =
     let a = c .before .before .before .before .before .before .before .before .before .before .before .before .before .before .before .before .args in
-    rewrites paper (now (a .s)) (a .n) (now (a .run)) (now (a .out)) _ (c .before .before .before .before .before .before .before .before .before .before .before .before .if1 .left) (c .before .before .before .before .before .before .before .before .before .before .read .ensures) (c .before .before .before .before .before .before .a .given .1)
+    rewrites paper (now (a .s)) (a .n) (now (a .run)) (now (a .out)) _ (omega (arith, c .before .before .before .before .before .before .before .before .before .before .before .before .if1 .left)) (c .before .before .before .before .before .before .before .before .before .before .read .ensures) (c .before .before .before .before .before .before .a .given .1)
     (below-known 256 (now (a .s)) (λ i. c .before .before .before .before .before .before .before .before .before .before .before .before .before .before .before .shared-slice-known .given i .fits))
     (c .before .before .write .ensures)
 
@@ -52,12 +53,12 @@ returns-3 c =
 slice-reshare-prefix-write : tie.Need-slice-reshare-prefix-write
 slice-reshare-prefix-write c =
     let a = c .before .before .before .before .before .before .before .before .before .before .before .args in
-    lent paper (now (a .s)) (a .n) (now (a .run)) (now (a .out)) _ (c .before .before .before .before .before .before .before .if1 .left) (c .before .before .before .before .before .read .ensures) (c .before .a .given .1)
+    lent paper (now (a .s)) (a .n) (now (a .run)) (now (a .out)) _ (omega (arith, c .before .before .before .before .before .before .before .if1 .left)) (c .before .before .before .before .before .read .ensures) (c .before .a .given .1)
 
 slice-aggregate-write : tie.Need-slice-aggregate-write
 slice-aggregate-write c =
     let a = c .before .before .before .before .before .before .before .before .before .before .before .before .args in
-    sym (length-take-le _ _ (lent paper (now (a .s)) (a .n) (now (a .run)) (now (a .out)) _ (c .before .before .before .before .before .before .before .before .if1 .left) (c .before .before .before .before .before .before .read .ensures) (c .before .before .a .given .1)))
+    sym (length-take-le _ _ (lent paper (now (a .s)) (a .n) (now (a .run)) (now (a .out)) _ (omega (arith, c .before .before .before .before .before .before .before .before .if1 .left)) (c .before .before .before .before .before .before .read .ensures) (c .before .before .a .given .1)))
 
 pub rewritten-spec : {M : Type 1} → statement M
 rewritten-spec =

@@ -1,5 +1,6 @@
 -- `normals::renormalised` meets its contract: the normal form that was written is normalised to itself. Assumes nothing.
 use mathlib.Core.Path.{sym}
+use native.Mathlib.Omega.{arith}
 use borrow.Author.Needs.{needs}
 use denote.Ref.{now}
 use lib.Seq.{length-take-le}
@@ -11,7 +12,7 @@ use Rattle.normals.proofs.renormalised.Tie as tie
 returns : tie.Need-returns
 returns c =
     let a = c .before .before .before .before .args in
-    no-room-for-second paper (now (a .s)) (a .n) (now (a .x)) (now (a .y)) (c .if1 .taken)
+    no-room-for-second paper (now (a .s)) (a .n) (now (a .x)) (now (a .y)) (omega (arith, c .if1 .taken))
 
 normalise-requires : tie.Need-normalise-requires
 normalise-requires c κs = search needs
@@ -28,7 +29,7 @@ same-length c = search needs
 returns-2 : tie.Need-returns-2
 returns-2 c =
     let a = c .before .before .before .before .before .before .before .before .before .before .args in
-    form-refused paper (now (a .s)) (a .n) (now (a .x)) (now (a .y)) _ (c .before .before .before .before .before .before .if1 .left) (c .before .before .before .before .normalise .ensures) (c .enum-told .given .1)
+    form-refused paper (now (a .s)) (a .n) (now (a .x)) (now (a .y)) _ (omega (arith, c .before .before .before .before .before .before .if1 .left)) (c .before .before .before .before .normalise .ensures) (c .enum-told .given .1)
 
 bytes-for-requires : tie.Need-bytes-for-requires
 bytes-for-requires c κs = search needs
@@ -45,7 +46,7 @@ same-length-3 c = search needs
 returns-3 : tie.Need-returns-3
 returns-3 c =
     let a = c .before .before .before .before .before .before .before .before .before .before .before .before .before .before .before .before .before .args in
-    renormalises paper (now (a .s)) (a .n) (now (a .x)) (now (a .y)) _ (c .before .before .before .before .before .before .before .before .before .before .before .before .before .if1 .left) (c .before .before .before .before .before .before .before .before .before .before .before .normalise .ensures) (c .before .before .before .before .before .before .before .a .given .1) (c .before .before .before .before .before .bytes-for .ensures)
+    renormalises paper (now (a .s)) (a .n) (now (a .x)) (now (a .y)) _ (omega (arith, c .before .before .before .before .before .before .before .before .before .before .before .before .before .if1 .left)) (c .before .before .before .before .before .before .before .before .before .before .before .normalise .ensures) (c .before .before .before .before .before .before .before .a .given .1) (c .before .before .before .before .before .bytes-for .ensures)
     (c .before .before .normalise2 .ensures)
 
 -- that the parts that are lent lie inside what they are parts of; below the answers, so that an edit of a part is refused at an answer

@@ -1,5 +1,6 @@
 -- `normals::says_same` meets its contract: what refuses a telegram is found before anything is stored. Assumes nothing.
 use mathlib.Core.Path.{sym, _∙_}
+use native.Mathlib.Omega.{arith}
 use borrow.Author.Needs.{needs}
 use denote.Ref.{now}
 use Rattle.format.specs.Rules.{paper}
@@ -13,12 +14,12 @@ use Rattle.normals.proofs.says_same.Tie as tie
 returns : tie.Need-returns
 returns c =
     let a = c .before .before .before .before .before .args in
-    no-room-for-first paper (now (a .s)) (a .n) (now (a .t)) (a .m) (now (a .x)) (now (a .y)) (c .if1 .taken)
+    no-room-for-first paper (now (a .s)) (a .n) (now (a .t)) (a .m) (now (a .x)) (now (a .y)) (omega (arith, c .if1 .taken))
 
 returns-2 : tie.Need-returns-2
 returns-2 c =
     let a = c .before .before .before .before .before .before .args in
-    no-room-for-other paper (now (a .s)) (a .n) (now (a .t)) (a .m) (now (a .x)) (now (a .y)) (c .before .if1 .left) (c .if2 .taken)
+    no-room-for-other paper (now (a .s)) (a .n) (now (a .t)) (a .m) (now (a .x)) (now (a .y)) (omega (arith, c .before .if1 .left)) (omega (arith, c .if2 .taken))
 
 check-requires : tie.Need-check-requires
 check-requires c κs = search needs
@@ -29,7 +30,7 @@ enum-known-r c = search needs
 returns-3 : tie.Need-returns-3
 returns-3 c =
     let a = c .before .before .before .before .before .before .before .before .before .before .args in
-    first-refused paper (now (a .s)) (a .n) (now (a .t)) (a .m) (now (a .x)) (now (a .y)) (c .before .before .before .before .before .if1 .left) (c .before .before .before .before .if2 .left)
+    first-refused paper (now (a .s)) (a .n) (now (a .t)) (a .m) (now (a .x)) (now (a .y)) (omega (arith, c .before .before .before .before .before .if1 .left)) (omega (arith, c .before .before .before .before .if2 .left))
     (answer-refused (checked paper (now (a .s)) (a .n)) _ .0 (sym (c .before .r .given .1) ∙ answer-is _ _ (c .before .before .before .check .ensures)))
 
 enum-told : tie.Need-enum-told
@@ -44,7 +45,7 @@ enum-known-r-2 c = search needs
 returns-4 : tie.Need-returns-4
 returns-4 c =
     let a = c .before .before .before .before .before .before .before .before .before .before .before .before .before .args in
-    second-refused paper (now (a .s)) (a .n) (now (a .t)) (a .m) (now (a .x)) (now (a .y)) (c .before .before .before .before .before .before .before .before .if1 .left) (c .before .before .before .before .before .before .before .if2 .left)
+    second-refused paper (now (a .s)) (a .n) (now (a .t)) (a .m) (now (a .x)) (now (a .y)) (omega (arith, c .before .before .before .before .before .before .before .before .if1 .left)) (omega (arith, c .before .before .before .before .before .before .before .if2 .left))
     (answer-accepted (checked paper (now (a .s)) (a .n)) _ .0 (sym (c .before .before .before .before .enum-told .given .1) ∙ answer-is _ _ (c .before .before .before .before .before .before .check .ensures)) .1)
     (answer-refused (checked paper (now (a .t)) (a .m)) _ .0 (sym (c .before .r2 .given .1) ∙ answer-is _ _ (c .before .before .before .check2 .ensures)))
 
@@ -56,8 +57,8 @@ compared-requires c κs =
     let a = c .before .before .before .before .before .before .before .before .before .before .before .before .before .before .args in
     let f = answer-accepted (checked paper (now (a .s)) (a .n)) _ .0 (sym (c .before .before .before .before .before .enum-told .given .1) ∙ answer-is _ _ (c .before .before .before .before .before .before .before .check .ensures)) in
     let g = answer-accepted (checked paper (now (a .t)) (a .m)) _ .0 (sym (c .before .before .enum-told2 .given .1) ∙ answer-is _ _ (c .before .before .before .before .check2 .ensures)) in (
-      record { entries = f .0; accepts = f .1; room = c .before .before .before .before .before .before .before .before .before .if1 .left },
-      record { entries = g .0; accepts = g .1; room = c .before .before .before .before .before .before .before .before .if2 .left },
+      record { entries = f .0; accepts = f .1; room = omega (arith, c .before .before .before .before .before .before .before .before .before .if1 .left) },
+      record { entries = g .0; accepts = g .1; room = omega (arith, c .before .before .before .before .before .before .before .before .if2 .left) },
     )
 
 same-length : tie.Need-same-length
