@@ -23,9 +23,10 @@ OneOutcome f Post =
     → Post κs args r (atExit f κs args u) → Post κs args t (atExit f κs args v) → (r ≡ t) × (u ≡ v)
 
 -- The same of a promise that tells what the outside did: no two outcomes meet it at which the outside did the same.
-abbrev pub OneOutcomeGiven : (f : Ended) (Post : Promise f) {Outside : Type 0}
-    → ((κs : Lfts (f .signature .lifetimes)) (args : Args (f .signature) κs) (r : Res (f .signature) κs) (s : AtExit f κs) → Post κs args r s → Outside)
-    → Type 0
+abbrev pub OneOutcomeGiven : (f : Ended) (Post : Promise f)
+    {Outside : (κs : Lfts (f .signature .lifetimes)) → Args (f .signature) κs → Type 0}
+    → ((κs : Lfts (f .signature .lifetimes)) (args : Args (f .signature) κs) (r : Res (f .signature) κs) (s : AtExit f κs)
+    → Post κs args r s → Outside κs args) → Type 0
 OneOutcomeGiven f Post outside =
     (κs : Lfts (f .signature .lifetimes)) (args : Args (f .signature) κs) (r t : Res (f .signature) κs) (u v : Lasts f κs args)
     → (p : Post κs args r (atExit f κs args u)) (q : Post κs args t (atExit f κs args v))
