@@ -1,25 +1,26 @@
 -- Each promise of this crate is met by one answer alone. Assumes nothing.
-use mathlib.Core.Path.{_≡_, _∙_, sym, ap}
+use mathlib.Core.Path.{refl, sym, ap, _∙_}
 use Prim.Native.Nat.{ℕ}
-use Rattle.bits.proofs.Once.{Once, equation-once}
-use Rattle.distance.specs.Distance.{scaledBy, inDecimetres, inSteps, fitting}
-use Rattle.distance.specs.declared.Scale.{Scale}
-use Rattle.distance.specs.declared.Scale.the-variants.{Metres}
-use Rattle.distance.specs.declared.Steps.{Steps}
-use Rattle.distance.specs.declared.Decimetres.{Decimetres}
+use Rattle.bits.proofs.Once.{OneOutcome}
+use Rattle.distance.proofs.Scale
+use Rattle.distance.proofs.Steps
+use Rattle.distance.proofs.Decimetres
 
-pub of-once : (q : ℕ) → Once (λ r. r ≡ scaledBy q)
-of-once q = equation-once (scaledBy q)
+pub of-once : OneOutcome Scale.of.ended Scale.of.Reads.Post
+of-once κs args r t u v p q = (p ∙ sym q, refl)
 
 -- steps and decimetres are known by their numbers
-pub steps-once : (n : ℕ) → Once (λ (r : Steps). r .0 ≡ n)
-steps-once n a b p q = ap (λ (x : ℕ). record { 0 = x }) (p ∙ sym q)
+pub new-once : OneOutcome Steps.new.ended Steps.new.Reads.Post
+new-once κs args r t u v p q = (ap (λ (n : ℕ). record { 0 = n }) (p ∙ sym q), refl)
 
-pub decimetres-once : (n : ℕ) → Once (λ (r : Decimetres). r .0 ≡ n)
-decimetres-once n a b p q = ap (λ (x : ℕ). record { 0 = x }) (p ∙ sym q)
+pub number-once : OneOutcome Steps.number.ended Steps.number.Reads.Post
+number-once κs args r t u v p q = (p ∙ sym q, refl)
 
-pub in-steps-once : (q : Scale) (d : ℕ) → Once (λ r. r ≡ inSteps q d)
-in-steps-once q d = equation-once (inSteps q d)
+pub decimetres-once : OneOutcome Steps.decimetres.ended Steps.decimetres.Reads.Post
+decimetres-once κs args r t u v p q = (ap (λ (n : ℕ). record { 0 = n }) (p ∙ sym q), refl)
 
-pub whole-metres-once : (q : Scale) (n w : ℕ) → Once (λ r. r ≡ fitting w (inSteps Metres (inDecimetres q n)))
-whole-metres-once q n w = equation-once (fitting w (inSteps Metres (inDecimetres q n)))
+pub whole-metres-once : OneOutcome Steps.whole_metres.ended Steps.whole_metres.Reads.Post
+whole-metres-once κs args r t u v p q = (p ∙ sym q, refl)
+
+pub steps-once : OneOutcome Decimetres.steps.ended Decimetres.steps.Reads.Post
+steps-once κs args r t u v p q = (p ∙ sym q, refl)

@@ -2,3 +2,4 @@
 pub mod Lines
 pub mod Refusals
 pub mod Binary
+pub mod Once

@@ -1,2 +1,3 @@
--- What is proved about the identifiers apart from any code.
+-- What is proved about the identifiers apart from any code, and one answer to each promise.
 pub mod Choice
+pub mod Once

@@ -1,26 +1,14 @@
--- The promise of whatever puts a piece is met by one end and one final contents alone; those of what compares and reads are equations. Assumes
--- nothing.
-use mathlib.Core.Path.{_≡_, sym, ap₂, _∙_}
-use mathlib.Core.Bool.{Bool}
+-- Each promise of this crate is met by one answer alone, and by one final contents of what is lent. Assumes nothing.
+use mathlib.Core.Path.{refl, sym, ap, _∙_}
 use mathlib.Core.List.{List}
 use Prim.Native.Nat.{ℕ}
-use lib.ListN.{drop}
-use Rattle.bits.proofs.Once.{Once, equation-once}
-use Rattle.pieces.specs.Pieces.{begins, Appended}
-use Rattle.pieces.specs.Numbers.{digitsFrom, bounded, decimalIn, sixteenIn, readAt}
+use Rattle.bits.proofs.Once.{OneOutcome}
+use Rattle.pieces.proofs.begins
+use Rattle.pieces.proofs.append
 
-pub append-once : (before : List ℕ) (at : ℕ) (piece : List ℕ) → Once (λ (r : ℕ × List ℕ). Appended before at piece (r .0) (r .1))
-append-once before at piece a b h g =
-    ap₂ (λ (end : ℕ) (after : List ℕ). (end, after)) (h .ends ∙ sym (g .ends)) (h .text ∙ sym (g .text))
+pub begins-once : OneOutcome begins.ended begins.Reads.Post
+begins-once κs args r t u v p q = (p ∙ sym q, refl)
 
-pub begins-once : (piece text : List ℕ) (at : ℕ) → Once (λ (r : Bool). r ≡ begins piece (drop at text))
-begins-once piece text at = equation-once (begins piece (drop at text))
-
-pub digits-once : (text : List ℕ) (at : ℕ) → Once (λ r. r ≡ readAt at (bounded (digitsFrom 0 0 (drop at text))))
-digits-once text at = equation-once (readAt at (bounded (digitsFrom 0 0 (drop at text))))
-
-pub decimal-once : (text : List ℕ) (at : ℕ) → Once (λ r. r ≡ readAt at (decimalIn (drop at text)))
-decimal-once text at = equation-once (readAt at (decimalIn (drop at text)))
-
-pub places-once : (text : List ℕ) (at : ℕ) → Once (λ r. r ≡ readAt at (sixteenIn (drop at text)))
-places-once text at = equation-once (readAt at (sixteenIn (drop at text)))
+pub append-once : OneOutcome append.ended append.Reads.Post
+append-once κs args r t u v p q =
+    (p .ends ∙ sym (q .ends), ap (λ (out : List ℕ). (out, u .1)) (p .text ∙ sym (q .text)))

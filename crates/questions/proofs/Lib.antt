@@ -1,2 +1,3 @@
--- What the functions of this crate stand on: lines by their letter.
+-- What the functions of this crate stand on: lines by their letter; and one outcome to each promise.
 mod Letters
+pub mod Once

@@ -1,6 +1,6 @@
 -- What a caller of `telegram` learns from each answer, that a word has one form at most, and that 128 bytes are room for every word.
 -- Assumes nothing.
-use mathlib.Core.Path.{_≡_, refl, sym, ap, ap₂, _∙_}
+use mathlib.Core.Path.{_≡_, refl, sym, ap, _∙_}
 use mathlib.Core.Bool.{Bool, true, false, cond, _&&_}
 use mathlib.Core.List.{List, _++_}
 use mathlib.Core.Option.{Option, some, none}
@@ -12,7 +12,6 @@ use lib.ListN.{length, take, drop, length-append, length-drop}
 use lib.Seq.{take-at, drop-at}
 use Rattle.bits.specs.Bits.{bytesOf}
 use Rattle.bits.proofs.Bytes.{length-bytesOf}
-use Rattle.bits.proofs.Once.{Once}
 use Rattle.packing.specs.Packing.{binary, bitsIn}
 use Rattle.packing.proofs.Lines.{length-bitsIn}
 use Rattle.words.specs.Words.{upTo, numberIn}
@@ -139,9 +138,3 @@ room-by before (some x) few h e = by (roomy x before) refl e
 
 pub never-roomless : (word before : List ℕ) → 128 ≤ length before → lentOf (telegramIn word) before ≡ Room → ⊥
 never-roomless word before = room-by before (telegramIn word) (bytes-few word)
-
--- ---- the promise is met by one answer alone, and by one final contents of what is lent
-
-pub lends-once : (t : Option Telegram) (before : List ℕ) → Once (λ (r : Lent × List ℕ). Lends t before (r .0) (r .1))
-lends-once t before a b p q =
-    ap₂ (λ (answered : Lent) (after : List ℕ). (answered, after)) (p .answer ∙ sym (q .answer)) (p .contents ∙ sym (q .contents))

@@ -1,11 +1,10 @@
 -- The promise of `values_in` is met by one answer alone, and by one final contents of what is lent. Assumes nothing.
-use mathlib.Core.Path.{sym, ap₂, _∙_}
+use mathlib.Core.Path.{sym, ap, _∙_}
 use mathlib.Core.List.{List}
 use Prim.Native.Nat.{ℕ}
-use Rattle.bits.proofs.Once.{Once}
-use Rattle.value_list.specs.Values.{Taken}
-use Rattle.value_list.specs.declared.Values.{Values}
+use Rattle.bits.proofs.Once.{OneOutcome}
+use Rattle.value_list.proofs.values_in
 
-pub values-once : (text before : List ℕ) → Once (λ (r : Values × List ℕ). Taken text before (r .0) (r .1))
-values-once text before a b p q =
-    ap₂ (λ (answer : Values) (after : List ℕ). (answer, after)) (p .answers ∙ sym (q .answers)) (p .contents ∙ sym (q .contents))
+pub values-in-once : OneOutcome values_in.ended values_in.Reads.Post
+values-in-once κs args r t u v p q =
+    (p .answers ∙ sym (q .answers), ap (λ (values : List ℕ). (u .0, (values, u .1 .1))) (p .contents ∙ sym (q .contents)))

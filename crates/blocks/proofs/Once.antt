@@ -1,0 +1,53 @@
+-- The promise of `start` is met by one answer alone. That of `next` is met by one outcome alone where the outside brings the same. `fill` promises
+-- only that no more was read than there is room for: what is read hangs on the outside. Assumes nothing.
+use mathlib.Core.Path.{_≡_, refl, sym, ap, ap₂, _∙_}
+use mathlib.Core.Bool.{Bool, true, false}
+use mathlib.Core.List.{List}
+use Prim.Native.Nat.{ℕ, _≤_}
+use native.Mathlib.Omega.{arith}
+use borrow.Author.Tests.{ltb-true, ltb-false}
+use lib.Dec.{ltb}
+use Rattle.bits.proofs.Once.{OneOutcome, OneOutcomeGiven}
+use Rattle.blocks.specs.Reading.{Steps, arrivedAt, arrivedLine}
+use Rattle.blocks.specs.declared.Filled.{Filled}
+use Rattle.blocks.specs.declared.Input.{Input}
+use Rattle.blocks.proofs.start
+use Rattle.blocks.proofs.next
+
+pub start-once : OneOutcome start.ended start.Reads.Post
+start-once κs args r t u v p q = (p ∙ sym q, refl)
+
+-- what the outside brings: what the block then holds, and, where a block is read, how many bytes came, or that none could be read
+abbrev Brought : Input → Type 0
+Brought i = List ℕ × (i .ended ≡ false → i .to ≤ i .from → Filled)
+
+abbrev brought : {block line : List ℕ} {i r : Input} {block′ line′ : List ℕ} → Steps block line i r block′ line′ → Brought i
+brought {block′ = after} h = (after, λ e f. h .reads e f .got)
+
+module _ {block line : List ℕ} {i r t : Input} {b c l m : List ℕ} (h : Steps block line i r b l) (g : Steps block line i t c m)
+    (e : brought h ≡ brought g) where
+  same-step : (r ≡ t) × (l ≡ m)
+  same-step = by (i .ended) refl (ltb (i .from) (i .to)) refl
+    where
+      by : (x : Bool) → i .ended ≡ x → (y : Bool) → ltb (i .from) (i .to) ≡ y → (r ≡ t) × (l ≡ m)
+      by true x y f = (h .stays x .0 ∙ sym (g .stays x .0), h .stays x .2 ∙ sym (g .stays x .2))
+      by false x true f =
+          let k = h .goes x (ltb-true (i .from) (i .to) f) .1 in
+          let n = g .goes x (ltb-true (i .from) (i .to) f) .1 in
+          (k .stands ∙ sym (n .stands), k .text ∙ sym (n .text))
+      by false x false f =
+          let few : i .to ≤ i .from = omega (arith, ltb-false (i .from) (i .to) f) in
+          let k = h .reads x few .arrives in
+          let n = g .reads x few .arrives in
+          let same : b ≡ c = ap (λ (w : Brought i). w .0) e in
+          let got : h .reads x few .got ≡ g .reads x few .got = ap (λ (w : Brought i). w .1 x few) e in (
+            k .stands ∙ ap₂ (λ (d : List ℕ) (z : Filled). arrivedAt d line i z) same got ∙ sym (n .stands),
+            k .text ∙ ap₂ (λ (d : List ℕ) (z : Filled). arrivedLine d line i z) same got ∙ sym (n .text),
+          )
+
+pub next-once : OneOutcomeGiven next.ended next.Reads.Post (λ κs args r s p. brought p)
+next-once κs args r t u v p q e =
+    let same = same-step p q e in (
+      same .0,
+      ap₂ (λ (block line : List ℕ). (block, (line, u .1 .1))) (ap (λ (w : Brought (args .1 .1 .0)). w .0) e) (same .1),
+    )

@@ -1,0 +1,2 @@
+-- One outcome to each promise.
+pub mod Once

@@ -1,0 +1,2 @@
+-- That the promise has one outcome.
+pub mod Once
