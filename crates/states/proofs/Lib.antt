@@ -42,6 +42,7 @@ pub mod Pointing
 pub mod Changing
 pub mod Accepting
 pub mod Placing
+pub mod Leaving
 pub mod Once
 pub mod Leaves
 pub mod Cheats
