@@ -13,7 +13,7 @@ use Rattle.bits.specs.Bits.{bytesOf}
 use Rattle.format.specs.Rules.{Terms}
 use Rattle.format.specs.Telegrams.{Entry, Result, Telegram, bits, bitCount, values, valuesIn, write}
 use Rattle.format.specs.Telegrams.Result.{accepted, refused}
-use Rattle.laws.proofs.Demand2.{writes, write-is, room}
+use Rattle.laws.proofs.Demand2.{writes, write-is}
 use Rattle.laws.proofs.Listed.{telegram-listed}
 use Rattle.states.specs.Labels.{numbers}
 use Rattle.states.proofs.Accepting.{checks}
