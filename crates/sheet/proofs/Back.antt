@@ -13,18 +13,18 @@ use Rattle.bits.specs.Bits.{bytesOf}
 use Rattle.format.specs.Rules.{Terms}
 use Rattle.format.specs.Telegrams.{Entry, Result, Telegram, bits, bitCount, values, valuesIn, write}
 use Rattle.format.specs.Telegrams.Result.{accepted, refused}
-use Rattle.laws.proofs.Demand2.{writes, write-is, room}
+use Rattle.laws.proofs.Demand2.{writes, write-is}
 use Rattle.laws.proofs.Listed.{telegram-listed}
 use Rattle.states.specs.Labels.{numbers}
 use Rattle.states.proofs.Accepting.{checks}
+use Rattle.states.proofs.Leaving.{few-values, same-length}
 use Rattle.sheet.specs.Rows.{sheetText}
 use Rattle.sheet.specs.Reading.{Rows, sheetIn}
 use Rattle.sheet.specs.Reading.Rows.{rows, bad}
 use Rattle.sheet.specs.Sheets.{exported, otherName, named, judged, onSheet, imported}
 use Rattle.sheet.specs.Sheets.Imported.{taken}
 use Rattle.sheet.specs.Steps.{entriesOf}
-use Rattle.sheet.proofs.Columns.{entries-of, same-length}
-use Rattle.sheet.proofs.Making.{few-values}
+use Rattle.sheet.proofs.Columns.{entries-of}
 use Rattle.sheet.proofs.Readable.{all-readable}
 use Rattle.sheet.proofs.Written.{sheet-read}
 use Rattle.sheet.proofs.Taken.{Stands, sheet-stands}

@@ -54,14 +54,9 @@ entries-of [] a = refl
 entries-of (e ∷ es) a =
     ap₂ (λ (x : Entry) (l : List Entry). x ∷ l) (ap (λ f. record { field = f; value = e .value }) (a .0)) (entries-of es (a .1))
 
-pub same-length : (es : List Entry) → length (numbers es) ≡ length (values es)
-unfolding numbersIn valuesIn
-same-length [] = refl
-same-length (e ∷ es) = ap suc (same-length es)
-
 -- ---- their text
 
-rows-few : (ks vs : List ℕ) → Below 72 ks → length (all rowText (entriesOf ks vs)) ≤ 43 * length vs
+pub rows-few : (ks vs : List ℕ) → Below 72 ks → length (all rowText (entriesOf ks vs)) ≤ 43 * length vs
 rows-few [] vs b = omega arith
 rows-few (k ∷ ks) [] b = omega arith
 rows-few (k ∷ ks) (v ∷ vs) b =

@@ -21,6 +21,7 @@ use Rattle.states.specs.Labels.{numbers, labelInto, numbersOver, Label}
 use Rattle.states.specs.Writer.{writeInto, Write}
 use Rattle.states.proofs.Answered.{label-answer}
 use Rattle.states.proofs.Checking.{was-refused}
+use Rattle.states.proofs.Leaving.{same-length}
 use Rattle.states.proofs.Writing.{Written, written}
 use Rattle.states.specs.Writer as writer
 use Rattle.sheet.specs.Sheets.{inNumbers, Imported, named, judged, onSheet, imported, importInto, sizeOf, bytesOver, Import}
@@ -30,7 +31,7 @@ use Rattle.sheet.specs.declared.Reply.{Reply}
 use Rattle.sheet.specs.declared.Reply.the-variants as reply
 use Rattle.sheet.specs.declared.Rows.the-variants as counted
 use Rattle.sheet.specs.declared.Rows as reading
-use Rattle.sheet.proofs.Columns.{values-of, numbers-of, same-length}
+use Rattle.sheet.proofs.Columns.{values-of, numbers-of}
 
 -- ---- what `label` finds
 

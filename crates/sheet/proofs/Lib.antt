@@ -13,6 +13,7 @@ pub mod Written
 pub mod Taken
 pub mod Back
 pub mod ThereAndBack
+pub mod Leaving
 pub mod Pointing
 pub mod Placing
 pub mod Changing

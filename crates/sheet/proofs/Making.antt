@@ -7,20 +7,20 @@ use borrow.Author.Tests.{le-leb, lt-leb}
 use lib.ListN.{length, take, drop}
 use lib.Seq.{take-at}
 use Rattle.bits.specs.Bits.{Below}
-use Rattle.format.specs.Rules.{Terms, paper, begun}
+use Rattle.format.specs.Rules.{paper}
 use Rattle.format.specs.Telegrams.{Entry, Result, Telegram, all, values, write}
 use Rattle.format.specs.Telegrams.Result.{accepted}
 use Rattle.format.specs.declared.Kind.the-variants.{Room}
 use Rattle.format.specs.declared.Refusal.{Refusal}
 use Rattle.format.specs.declared.Answer.{Answer}
 use Rattle.format.specs.declared.Answer.the-variants.{Accepted, Refused}
-use Rattle.laws.proofs.Demand2.{writes, room}
+use Rattle.laws.proofs.Demand2.{writes}
 use Rattle.laws.proofs.Listed.{AllKnown, telegram-listed, known-number}
 use Rattle.states.specs.Labels.{numbers, numbersIn, Label}
 use Rattle.states.specs.Reader.{checked, readInto, answerOf, valuesOver, Read}
 use Rattle.states.proofs.Answered.{read-answer}
-use Rattle.states.proofs.Answers.{values-bits}
 use Rattle.states.proofs.Checking.{AcceptedAs, was-accepted, was-refused, holds}
+use Rattle.states.proofs.Leaving.{few-values, same-length}
 use Rattle.pieces.specs.Pieces.{Appended, Grown}
 use Rattle.pieces.proofs.Starts.{grown-none, grows}
 use Rattle.sheet.specs.Rows.{heading, rowText, sheetText}
@@ -28,20 +28,16 @@ use Rattle.sheet.specs.Sheets.{inNumbers, exported, lengthOf, sheetOver,
 use Rattle.sheet.specs.Steps.{entriesOf, Columns, RowsPut, Listing, Wrote}
 use Rattle.sheet.specs.declared.Reply.{Reply}
 use Rattle.sheet.specs.declared.Reply.the-variants as reply
-use Rattle.sheet.proofs.Columns.{entries-of, same-length}
+use Rattle.sheet.proofs.Columns.{entries-of}
 use Rattle.sheet.proofs.Gathering.{length-heading}
 use Rattle.sheet.proofs.Judgement.{named-as}
 
 -- ---- a telegram's list
 
-below-numbers : (es : List Entry) → AllKnown es → Below 72 (numbers es)
+pub below-numbers : (es : List Entry) → AllKnown es → Below 72 (numbers es)
 unfolding numbersIn
 below-numbers [] a = tt
 below-numbers (e ∷ es) a = (known-number (e .field) (a .0), below-numbers es (a .1))
-
-pub few-values : (p : Terms) {es : List Entry} → Telegram p es → length (values es) ≤ 830
-unfolding begun
-few-values p {es} t = omega (arith, values-bits es, room p t)
 
 -- two telegrams with the same values are one
 one-telegram : {es fs : List Entry} → Telegram paper es → Telegram paper fs → values es ≡ values fs → es ≡ fs

@@ -5,7 +5,7 @@ use mathlib.Core.Bool.{Bool, true, false, cond}
 use mathlib.Core.List.{List, _++_}
 use Prim.Native.Nat.{ℕ, _≤_}
 use native.Mathlib.Omega.{arith}
-use borrow.Author.Tests.{le-leb}
+use borrow.Author.Tests.{le-leb, leb-true}
 use lib.Dec.{leb}
 use lib.ListN.{length, take, drop}
 use lib.Seq.{take-at}
@@ -28,31 +28,32 @@ use Rattle.sheet.proofs.Back.{sheet-back, only-sheets, telegram-back}
 
 -- ---- what a reply says of what was done
 
-record Written (p : Terms) (s : List ℕ) (n room m : ℕ) : Type 0 where
+pub record Written (p : Terms) (s : List ℕ) (n room m : ℕ) : Type 0 where
   pub entries : List Entry
   pub is : exported p s n room ≡ accepted entries
   pub long : m ≡ length (sheetText entries)
 
-written : (p : Terms) (s : List ℕ) (n room m : ℕ) → Done m ≡ lengthOf (exported p s n room) → Written p s n room m
+pub written : (p : Terms) (s : List ℕ) (n room m : ℕ) → Done m ≡ lengthOf (exported p s n room) → Written p s n room m
 written p s n room m e = by (exported p s n room) refl e
   where
     by : (r : Result) → exported p s n room ≡ r → Done m ≡ lengthOf r → Written p s n room m
     by (accepted es) q z = record { entries = es; is = q; long = cc }
     by (refused x) q z = let w : _≡_ {A = ℕ} 0 1 = cc in absurd (omega arith)
 
-record Held (p : Terms) (text : List ℕ) (room n : ℕ) : Type 0 where
+pub record Held (p : Terms) (text : List ℕ) (room n : ℕ) : Type 0 where
   pub entries : List Entry
+  pub enough : 104 ≤ room
   pub into : importInto p text room ≡ taken entries
   pub is : imported p text ≡ taken entries
   pub size : n ≡ bitCount entries
 
-held : (p : Terms) (text : List ℕ) (room n : ℕ) → Done n ≡ sizeOf (importInto p text room) → Held p text room n
+pub held : (p : Terms) (text : List ℕ) (room n : ℕ) → Done n ≡ sizeOf (importInto p text room) → Held p text room n
 unfolding importInto
 held p text room n e = by-room (leb 104 room) (imported p text) refl refl e
   where
     by-room : (b : Bool) (i : Imported) → leb 104 room ≡ b → imported p text ≡ i
         → Done n ≡ sizeOf (cond b i (refusedBy (record { kind = Room; place = 0 }))) → Held p text room n
-    by-room true (taken es) q r z = record { entries = es; into = rw (q, r); is = r; size = cc }
+    by-room true (taken es) q r z = record { entries = es; enough = leb-true 104 room q; into = rw (q, r); is = r; size = cc }
     by-room true (refusedBy x) q r z = let w : _≡_ {A = ℕ} 0 1 = cc in absurd (omega arith)
     by-room true (refusedAt k) q r z = let w : _≡_ {A = ℕ} 0 1 = cc in absurd (omega arith)
     by-room false i q r z = let w : _≡_ {A = ℕ} 0 1 = cc in absurd (omega arith)

@@ -1,7 +1,7 @@
 -- Whatever is checked or normalised, the place of a refusal is at most 830. Assumes nothing.
 use mathlib.Core.Bool.{Bool, true, false, cond}
 use mathlib.Core.List.{List}
-use mathlib.Core.Path.{_≡_, refl}
+use mathlib.Core.Path.{_≡_, refl, sym, subst}
 use Prim.Native.Nat.{ℕ, _≤_}
 use native.Mathlib.Omega.{arith}
 use lib.Dec.{leb}
@@ -9,10 +9,13 @@ use lib.ListN.{length, take}
 use lib.Seq.{length-take-le}
 use Rattle.bits.specs.Bits.{bitsOf}
 use Rattle.bits.proofs.Bytes.{length-bitsOf, below-bitsOf, below-take}
+use Rattle.format.specs.Refusals.{inNumbers}
 use Rattle.format.specs.Rules.{paper}
 use Rattle.format.specs.Telegrams.{Entry, Result, values, bitCount, read}
 use Rattle.format.specs.Telegrams.Result.{accepted, refused}
+use Rattle.format.specs.declared.Answer.{Answer}
 use Rattle.format.specs.declared.Kind.the-variants.{Room, Size, Padding}
+use Rattle.format.proofs.Numbers.{answer-is}
 use Rattle.laws.proofs.Bounds.{read-placed}
 use Rattle.states.specs.Reader.{sized, clear, atOnce, checked, answered, answerOf}
 use Rattle.states.specs.Writer.{sizeOf}
@@ -50,8 +53,12 @@ module _ (s : List ℕ) (n : ℕ) where
   unfolding checked
   checked-placed = by-tests (sized s n) (clear s n) refl
 
-  pub check-placed : Placed (answerOf (checked paper s n))
+  check-placed : Placed (answerOf (checked paper s n))
   check-placed = answered-placed (λ es. length (values es)) (checked paper s n) checked-placed
+
+  -- so whatever answer has the check's numbers
+  pub answer-placed : (a : Answer) → inNumbers a ≡ inNumbers (answerOf (checked paper s n)) → Placed a
+  answer-placed a h = subst Placed (sym (answer-is a (answerOf (checked paper s n)) h)) check-placed
 
   with-room : (b : Bool) → PlacedResult (cond b (normalOf (checked paper s n)) (atOnce Room))
   with-room true = normal-placed (checked paper s n) checked-placed

@@ -233,11 +233,6 @@ pub record Stored (es : List Entry) (count : ℕ) (before after : List ℕ) : Ty
   pub long : length after ≡ length before
 
 module _ (p : Terms) (s : List ℕ) (n : ℕ) (before after : List ℕ) where
-  -- "A refusal .. changes no output"
-  pub refused-keeps : (r : Refusal) → Read p s n before (Answers.Refused r) after → after ≡ before
-  refused-keeps r h =
-      h .contents ∙ ap (λ (a : Result). valuesOver a before) (answer-refused (readInto p s n (length before)) r .0 (read-answer h))
-
   stored : (es : List Entry) (count : ℕ) → count ≡ length (values es) → after ≡ values es ++ drop (length (values es)) before
       → length (values es) ≤ length before → Stored es count before after
   stored es count c a l =

@@ -43,6 +43,7 @@ pub mod Pointing
 pub mod Changing
 pub mod Accepting
 pub mod Placing
+pub mod Leaving
 pub mod Once
 pub mod Cheats
 pub mod WriterCheats

@@ -9,10 +9,10 @@ use lib.ListN.{length}
 use lib.Seq.{length-take-le}
 use Rattle.format.specs.Rules.{paper}
 use Rattle.states.specs.Labels.{numbers}
+use Rattle.states.proofs.Leaving.{few-values}
 use Rattle.states.proofs.Writing.{Written}
 use Rattle.sheet.specs.Steps.{Other}
 use Rattle.sheet.proofs.Judgement.{label-refused, named-as, label-accepted, judges-roomless, judges-refused, judges-named, judges-taken}
-use Rattle.sheet.proofs.Making.{few-values}
 use Rattle.sheet_judge.proofs.judge.Statement.{statement}
 use Rattle.sheet_judge.proofs.judge.Tie as tie
 
