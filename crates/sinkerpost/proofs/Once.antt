@@ -1,17 +1,14 @@
--- Each promise of this crate is met by one number alone, and that of the normaliser by one final contents of what is lent, for any
--- terms. Assumes nothing.
-use mathlib.Core.Path.{_≡_, sym, ap₂, _∙_}
+-- Each promise of this crate is met by one number alone, and that of the normaliser by one final contents of what is lent. Assumes nothing.
+use mathlib.Core.Path.{refl, sym, ap, _∙_}
 use mathlib.Core.List.{List}
 use Prim.Native.Nat.{ℕ}
-use Rattle.bits.proofs.Once.{Once, equation-once}
-use Rattle.format.specs.Rules.{Terms}
-use Rattle.sinkerpost.specs.Codes.{checkCode, Normalise}
+use Rattle.bits.proofs.Once.{OneOutcome}
+use Rattle.sinkerpost.proofs.sinkerpost_check
+use Rattle.sinkerpost.proofs.sinkerpost_normalise
 
-pub check-once : (p : Terms) (s : List ℕ) (n : ℕ) → Once (λ r. r ≡ checkCode p s n)
-check-once p s n = equation-once (checkCode p s n)
+pub check-once : OneOutcome sinkerpost_check.ended sinkerpost_check.Reads.Post
+check-once κs args r t u v p q = (p ∙ sym q, refl)
 
--- the answer and the final contents together
-pub normalise-once : (p : Terms) (s : List ℕ) (n : ℕ) (before : List ℕ)
-    → Once (λ (r : ℕ × List ℕ). Normalise p s n before (r .0) (r .1))
-normalise-once p s n before a b h g =
-    ap₂ (λ (answer : ℕ) (after : List ℕ). (answer, after)) (h .answers ∙ sym (g .answers)) (h .contents ∙ sym (g .contents))
+pub normalise-once : OneOutcome sinkerpost_normalise.ended sinkerpost_normalise.Reads.Post
+normalise-once κs args r t u v p q =
+    (p .answers ∙ sym (q .answers), ap (λ (out : List ℕ). (out, u .1)) (p .contents ∙ sym (q .contents)))

@@ -44,7 +44,6 @@ pub mod Changing
 pub mod Accepting
 pub mod Placing
 pub mod Leaving
-pub mod Once
 pub mod Cheats
 pub mod WriterCheats
 pub mod LabelCheats

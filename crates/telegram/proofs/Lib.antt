@@ -1,0 +1,2 @@
+-- That the promises determine what the functions answer and leave.
+pub mod Once
