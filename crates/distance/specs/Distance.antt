@@ -45,14 +45,14 @@ abbrev pub fitting : ℕ → Told → Bool
 fitting w (told.Whole n) = ltb (n .0) (2 ^ w)
 fitting w told.Not = false
 
--- 50 steps of 10 m are 5,000 dm, and 500 steps of 1 m; 1,005 dm are no whole number of metres
-examples : inDecimetres Tens 50 ∷ inDecimetres Metres 500 ∷ [] ≡ 5000 ∷ 5000 ∷ []
+-- 70 steps of 10 m are 7,000 dm, and 700 steps of 1 m; 1,015 dm are no whole number of metres
+examples : inDecimetres Tens 70 ∷ inDecimetres Metres 700 ∷ [] ≡ 7000 ∷ 7000 ∷ []
 examples = refl
 
-back : inSteps Metres 5000 ∷ inSteps Metres 1005 ∷ inSteps Tenths 1005 ∷ []
-    ≡ told.Whole (record { 0 = 500 }) ∷ told.Not ∷ told.Whole (record { 0 = 1005 }) ∷ []
+back : inSteps Metres 7000 ∷ inSteps Metres 1015 ∷ inSteps Tenths 1015 ∷ []
+    ≡ told.Whole (record { 0 = 700 }) ∷ told.Not ∷ told.Whole (record { 0 = 1015 }) ∷ []
 back = refl
 
--- 104,857 steps of 10 m are 1,048,570 m, which 20 bits hold, and one more is not
-fit : fitting 20 (inSteps Metres (inDecimetres Tens 104857)) ∷ fitting 20 (inSteps Metres (inDecimetres Tens 104858)) ∷ [] ≡ true ∷ false ∷ []
+-- 90,000 steps of 10 m are 900,000 m, which 20 bits hold, and 110,000 are too many
+fit : fitting 20 (inSteps Metres (inDecimetres Tens 90000)) ∷ fitting 20 (inSteps Metres (inDecimetres Tens 110000)) ∷ [] ≡ true ∷ false ∷ []
 fit = refl
