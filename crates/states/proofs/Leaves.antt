@@ -7,7 +7,6 @@ use lib.Dec.{eqb}
 use Rattle.bits.proofs.Once.{Once, equation-once}
 use Rattle.format.specs.Normal.{viewOf}
 use Rattle.format.specs.Rules.{Earlier, Context, placeFrom, clash, collidesAmong}
-use Rattle.format.specs.Telegrams.{Entry}
 use Rattle.format.specs.declared.Kind.{Kind}
 use Rattle.states.specs.Heads.{frontOf}
 use Rattle.states.specs.Machine.{Noted, senseOf, contextOf, levelOf, unread, slight}
@@ -64,8 +63,8 @@ view-same Measures Kept e = cc
 view-same Measures Scales e = cc
 view-same Measures Measures e = refl
 
-pub counts-once : (c v : ℕ) → Once (λ r. (a b : ℕ) (es : List Entry) → viewOf (senseOf c a b) v es ≡ viewIs r)
-counts-once c v x y p q = view-same x y (sym (p 0 0 []) ∙ q 0 0 [])
+pub counts-once : (c v : ℕ) → Once (λ r. (a b : ℕ) → viewOf (senseOf c a b) v ≡ viewIs r)
+counts-once c v x y p q = view-same x y (sym (p 0 0) ∙ q 0 0)
 
 -- a level is known by the definition's
 level-same : (a b : Level) → levelOf a ≡ levelOf b → a ≡ b
