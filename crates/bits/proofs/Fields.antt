@@ -109,18 +109,10 @@ module _ (s : List ℕ) (n width at : ℕ) where
   unfolding takeAt
   take-whole w h l = simp (le-leb width 64 w, le-leb (at + width) n h, le-leb n (8 * length s) l)
 
-  -- one that is too wide, that ends past n, or whose n the bytes do not hold, is not
-  pub take-wide : 64 < width → takeAt s n width at ≡ Short
-  unfolding takeAt
-  take-wide h = simp (lt-leb width 64 h)
-
+  -- one that ends past n is not
   pub take-past : width ≤ 64 → n < at + width → takeAt s n width at ≡ Short
   unfolding takeAt
   take-past w h = simp (le-leb width 64 w, lt-leb (at + width) n h)
-
-  pub take-roomless : width ≤ 64 → at + width ≤ n → 8 * length s < n → takeAt s n width at ≡ Short
-  unfolding takeAt
-  take-roomless w h l = simp (le-leb width 64 w, le-leb (at + width) n h, lt-leb n (8 * length s) l)
 
 -- a part of a field that was taken, o bits from its first and low bits from its last
 pub take-part : (s : List ℕ) (n o w low at v x next : ℕ) → IsField s n (o + (w + low)) at v next → w ≤ 64 → v / 2 ^ low % 2 ^ w ≡ x

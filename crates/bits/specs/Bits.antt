@@ -1,7 +1,9 @@
 -- Bit strings, the numbers that fields hold, and the bits of bytes. Definitions alone.
 -- A bit string is a list of the numbers 0 and 1 in order of sending.
+use mathlib.Core.Bool.{Bool, true, false, _&&_}
 use mathlib.Core.List.{List, [], _∷_, _++_}
 use Prim.Native.Nat.{ℕ, zero, suc, _+_, _*_, _/_, _%_, _^_, _<_}
+use lib.Dec.{eqb}
 use lib.ListN.{length, drop}
 
 -- "Multi-bit fields have their highest bit first": the number that a list of bits is
@@ -42,3 +44,10 @@ bytesOf bs = packed (bytesFor (length bs)) bs
 abbrev pub Below : ℕ → List ℕ → Type 0
 Below k [] = Unit
 Below k (x ∷ xs) = (x < k) × Below k xs
+
+-- whether two lists hold the same numbers
+abbrev pub same : List ℕ → List ℕ → Bool
+same [] [] = true
+same [] (y ∷ ys) = false
+same (x ∷ xs) [] = false
+same (x ∷ xs) (y ∷ ys) = eqb x y && same xs ys

@@ -1,14 +1,16 @@
--- Document 01, "Worked telegrams", the proved group, and what it says of scales and of repeated packets beside it; and request 3's own pair:
--- one table of claims about the definitions. Definitions alone.
+-- Document 01, "Worked telegrams", the proved group: "Cases 1 to 8 are one table, proved once against the definitions; other cases are run". One
+-- table of claims about the definitions. Definitions alone.
 use mathlib.Core.Bool.{Bool, true, false, not, _&&_}
 use mathlib.Core.List.{List, [], _∷_, _++_}
 use Prim.Native.Nat.{ℕ, zero, suc, _+_}
 use lib.Dec.{eqb}
 use lib.ListN.{length}
-use Rattle.format.specs.Refusals.{numberOf}
+use Rattle.bits.specs.Bits.{same}
+use Rattle.format.specs.Refusals.{inNumbers}
 use Rattle.format.specs.Rules.{paper}
 use Rattle.format.specs.Telegrams.{Result, bits, values, bitCount, write}
 use Rattle.format.specs.Telegrams.Result.{accepted, refused}
+use Rattle.format.specs.declared.Answer.the-variants.{Accepted, Refused}
 use Rattle.states.specs.Reader.{checked}
 use Rattle.states.specs.Normaliser.{normalOf}
 
@@ -43,21 +45,18 @@ abbrev pub bitsOr0 : Result → ℕ
 bitsOr0 (accepted es) = bitCount es
 bitsOr0 (refused r) = 0
 
-abbrev pub same : List ℕ → List ℕ → Bool
-same [] [] = true
-same [] (y ∷ ys) = false
-same (x ∷ xs) [] = false
-same (x ∷ xs) (y ∷ ys) = eqb x y && same xs ys
-
 abbrev pub bothDiffer : Result → Result → Bool
 bothDiffer (accepted es) (accepted fs) = not (same (bits es) (bits fs))
 bothDiffer (accepted es) (refused r) = false
 bothDiffer (refused r) b = false
 
--- an answer in numbers: 0, the count and the values; or the number and the place
+-- the paper's two numbers of an answer, and the values behind them
+abbrev pub numbered : ℕ × ℕ → List ℕ → List ℕ
+numbered x vs = x .0 ∷ x .1 ∷ vs
+
 abbrev pub told : Result → List ℕ
-told (accepted es) = 0 ∷ length (values es) ∷ values es
-told (refused r) = numberOf (r .kind) ∷ r .place ∷ []
+told (accepted es) = numbered (inNumbers (Accepted (length (values es)))) (values es)
+told (refused r) = numbered (inNumbers (Refused r)) []
 
 unfoldable pub holds : Claim → Bool
 holds (reads s n vs k) = same (told (checked paper s n)) (0 ∷ k ∷ vs)
@@ -92,20 +91,20 @@ eight x = 0x90 ∷ 0x02 ∷ 0x7F ∷ 0x81 ∷ 0x25 ∷ 0xDF ∷ 0xFF ∷ x ∷ [
 abbrev call : ℕ → List ℕ
 call radio = 42 ∷ 1 ∷ 113 ∷ 0 ∷ 0 ∷ 0 ∷ radio ∷ 0 ∷ []
 
--- ETCS-132 with any Q_DIR
-abbrev danger : ℕ → List ℕ
-danger d = 132 ∷ d ∷ 24 ∷ 0 ∷ []
+-- ETCS-44 with any L_PACKET, and CTCS-2 of three further groups inside it
+abbrev restricted : ℕ → List ℕ
+restricted n = 44 ∷ 1 ∷ n ∷ 2 ∷ 1 ∷ 198 ∷ 1 ∷ 9000 ∷ 0 ∷ 1000 ∷ 1 ∷ 9 ∷ 3 ∷ repeated 3 (1000 ∷ 500 ∷ 1 ∷ 9 ∷ [])
 
--- ETCS-21 with any Q_DIR: level from a kilometre on
-abbrev gradient : ℕ → List ℕ
-gradient d = 21 ∷ d ∷ 54 ∷ 1 ∷ 1000 ∷ 0 ∷ 0 ∷ 0 ∷ []
+-- ETCS-72 with any L_PACKET, both levels 5, and so many text bytes
+abbrev text : ℕ → ℕ → List ℕ
+text n bytes = 72 ∷ 1 ∷ n ∷ 1 ∷ 0 ∷ 0 ∷ 0 ∷ 15 ∷ 5 ∷ 32767 ∷ 1023 ∷ 15 ∷ 5 ∷ 2 ∷ bytes ∷ repeated bytes (65 ∷ [])
 
 -- of the stop telegram
 abbrev stop44 : List ℕ
 stop44 = 44 ∷ 1 ∷ 48 ∷ 5 ∷ 1 ∷ 25 ∷ 0 ∷ []
 
 abbrev stop132 : List ℕ
-stop132 = danger 1
+stop132 = 132 ∷ 1 ∷ 24 ∷ 0 ∷ []
 
 abbrev stop137 : List ℕ
 stop137 = 137 ∷ 1 ∷ 24 ∷ 0 ∷ []
@@ -113,14 +112,6 @@ stop137 = 137 ∷ 1 ∷ 24 ∷ 0 ∷ []
 -- ETCS-44 with CTCS-3: Q_SCALE, D_STARTREVERSE, L_REVERSEAREA
 abbrev reversing : ℕ → ℕ → ℕ → List ℕ
 reversing q d l = 44 ∷ 1 ∷ 79 ∷ 3 ∷ 1 ∷ 56 ∷ q ∷ d ∷ l ∷ []
-
--- ETCS-79, one group: Q_SCALE, M_POSITION
-abbrev position : ℕ → ℕ → List ℕ
-position q m = 79 ∷ 1 ∷ 81 ∷ q ∷ 0 ∷ 8 ∷ 0 ∷ 0 ∷ m ∷ 0 ∷ []
-
--- ETCS-72, both levels 5, no text byte: Q_SCALE, D_TEXTDISPLAY, L_TEXTDISPLAY
-abbrev text : ℕ → ℕ → ℕ → List ℕ
-text q d l = 72 ∷ 1 ∷ 92 ∷ q ∷ 0 ∷ 0 ∷ d ∷ 15 ∷ 5 ∷ l ∷ 1023 ∷ 15 ∷ 5 ∷ 2 ∷ 0 ∷ []
 
 unfoldable pub cases : List Claim
 cases =
@@ -139,38 +130,22 @@ cases =
     -- ETCS-41 with level 1, N_ITER 0 71, level 0 63
     ∷ takes (41 ∷ 1 ∷ 71 ∷ 1 ∷ 500 ∷ 1 ∷ 2 ∷ 100 ∷ 0 ∷ []) 71
     ∷ takes (41 ∷ 1 ∷ 63 ∷ 1 ∷ 500 ∷ 0 ∷ 100 ∷ 0 ∷ []) 63
-    -- 4. ETCS-44 with CTCS-2, N_ITER 3: inner 198, outer 221
-    ∷ takes (44 ∷ 1 ∷ 221 ∷ 2 ∷ 1 ∷ 198 ∷ 1 ∷ 9000 ∷ 0 ∷ 1000 ∷ 1 ∷ 9 ∷ 3 ∷ repeated 3 (1000 ∷ 500 ∷ 1 ∷ 9 ∷ [])) 221
-    -- 5. ETCS-72, both levels 5, 9 text bytes: 164
-    ∷ takes (72 ∷ 1 ∷ 164 ∷ 1 ∷ 0 ∷ 0 ∷ 0 ∷ 15 ∷ 5 ∷ 32767 ∷ 1023 ∷ 15 ∷ 5 ∷ 2 ∷ 9 ∷ repeated 9 (65 ∷ [])) 164
+    -- 4. ETCS-44 with CTCS-2, N_ITER 3: inner 198, outer 221. Table A.9 prints 224: refused by 8 at its L_PACKET
+    ∷ takes (restricted 221) 221
+    ∷ breaks (restricted 224) 8 60
+    -- 5. ETCS-72, both levels 5, 9 text bytes: 164. Table A.12 prints 164 with L_TEXT 13; thirteen would take 196
+    ∷ takes (text 164 9) 164
+    ∷ takes (text 196 13) 196
+    ∷ breaks (text 164 13) 8 60
     -- 6. Stop telegram (44 with CTCS-5 48, 132 24, 137 24): n = 154
     ∷ takes stop44 48
     ∷ takes stop132 24
     ∷ takes stop137 24
     ∷ fills (stop44 ++ (stop132 ++ stop137)) 154
     -- 7. NID_RADIO 08614970020002FF and 8614970020002FFF are both allowed and differ; 0861497002000FF2 is refused by 7
-    ∷ takes (call 0x08614970020002FF) 113
-    ∷ takes (call 0x8614970020002FFF) 113
     ∷ differ (call 0x08614970020002FF) (call 0x8614970020002FFF)
     ∷ breaks (call 0x0861497002000FF2) 7 98
     -- 8. CTCS-3 at 10 m, 50 and 400, becomes 1 m, 500 and 4000; at 10 cm, 200 and 1005, it stays
     ∷ becomes (reversing 2 50 400) (reversing 1 500 4000)
     ∷ becomes (reversing 0 200 1005) (reversing 0 200 1005)
-    -- CTCS-3 at 10 m: 3276 becomes 32760, 3277 stays
-    ∷ becomes (reversing 2 3276 0) (reversing 1 32760 0)
-    ∷ becomes (reversing 2 3277 0) (reversing 2 3277 0)
-    -- ETCS-79 at 10 m: M_POSITION 104857 becomes 1048570, 104858 stays (offsets 0)
-    ∷ becomes (position 2 104857) (position 1 1048570)
-    ∷ becomes (position 2 104858) (position 2 104858)
-    -- Text length 32767 at 10 m, distance 5: scale 1, 32767, 50
-    ∷ becomes (text 2 5 32767) (text 1 50 32767)
-    -- Two ETCS-132 with Q_DIR 1: 10; with 0 and 1: accepted
-    ∷ breaks (danger 1 ++ danger 1) 10 82
-    ∷ fills (danger 0 ++ danger 1) 106
-    -- Document 02, 3: "an ETCS-21 with Q_DIR 1 and another with Q_DIR 2", in either order; one with 0 and one with 1 are accepted
-    ∷ breaks (gradient 1 ++ gradient 2) 10 112
-    ∷ breaks (gradient 2 ++ gradient 1) 10 112
-    ∷ fills (gradient 0 ++ gradient 1) 166
-    -- "ETCS-44 remains exempt"
-    ∷ fills (stop44 ++ stop44) 154
     ∷ []

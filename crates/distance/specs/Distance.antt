@@ -1,9 +1,10 @@
--- Document 01, "Distances and the normal form": "Q_SCALE 0, 1, 2 is a step of 1, 10, 100 dm". Definitions and worked examples.
+-- Document 01, "Distances and the normal form": distances by the scale that a Q_SCALE is. Definitions and worked examples.
 use mathlib.Core.Path.{_≡_, refl}
 use mathlib.Core.Bool.{Bool, true, false, _&&_}
 use mathlib.Core.List.{[], _∷_}
-use Prim.Native.Nat.{ℕ, zero, suc, _*_, _/_, _%_, _^_}
+use Prim.Native.Nat.{ℕ, zero, suc, _/_, _%_, _^_}
 use lib.Dec.{eqb, ltb}
+use Rattle.distance.specs.Steps.{step, decimetres}
 use Rattle.distance.specs.declared.Scale.{Scale}
 use Rattle.distance.specs.declared.Scale.the-variants.{Tenths, Metres, Tens}
 use Rattle.distance.specs.declared.Scaled.{Scaled}
@@ -11,14 +12,11 @@ use Rattle.distance.specs.declared.Scaled.the-variants.{By, Not}
 use Rattle.distance.specs.declared.Told.{Told}
 use Rattle.distance.specs.declared.Told.the-variants as told
 
--- the Q_SCALE of a scale, and the decimetres of a step of it
+-- the Q_SCALE of a scale
 abbrev pub numberOf : Scale → ℕ
 numberOf Tenths = 0
 numberOf Metres = 1
 numberOf Tens = 2
-
-abbrev pub stepOf : Scale → ℕ
-stepOf q = 10 ^ numberOf q
 
 unfoldable pub scaledBy : ℕ → Scaled
 scaledBy zero = By Tenths
@@ -27,7 +25,7 @@ scaledBy (suc (suc zero)) = By Tens
 scaledBy (suc (suc (suc n))) = Not
 
 abbrev pub inDecimetres : Scale → ℕ → ℕ
-inDecimetres q n = n * stepOf q
+inDecimetres q n = decimetres (numberOf q) n
 
 abbrev wholeIf : Bool → ℕ → Told
 wholeIf true n = told.Whole (record { 0 = n })
@@ -35,24 +33,24 @@ wholeIf false n = told.Not
 
 -- d decimetres in steps of so many: a whole number that 32 bits hold, or not
 abbrev pub wholeSteps : ℕ → ℕ → Told
-wholeSteps step d = wholeIf (eqb (d % step) 0 && ltb (d / step) (2 ^ 32)) (d / step)
+wholeSteps k d = wholeIf (eqb (d % k) 0 && ltb (d / k) (2 ^ 32)) (d / k)
 
 abbrev pub inSteps : Scale → ℕ → Told
-inSteps q d = wholeSteps (stepOf q) d
+inSteps q d = wholeSteps (step (numberOf q)) d
 
 -- whether what is told is whole steps, of which 32 bits hold the number, that fit w bits
 abbrev pub fitting : ℕ → Told → Bool
 fitting w (told.Whole n) = ltb (n .0) (2 ^ w)
 fitting w told.Not = false
 
--- 50 steps of 10 m are 5,000 dm, and 500 steps of 1 m; 1,005 dm are no whole number of metres
-examples : inDecimetres Tens 50 ∷ inDecimetres Metres 500 ∷ [] ≡ 5000 ∷ 5000 ∷ []
+-- 70 steps of 10 m are 7,000 dm, and 700 steps of 1 m; 1,015 dm are no whole number of metres
+examples : inDecimetres Tens 70 ∷ inDecimetres Metres 700 ∷ [] ≡ 7000 ∷ 7000 ∷ []
 examples = refl
 
-back : inSteps Metres 5000 ∷ inSteps Metres 1005 ∷ inSteps Tenths 1005 ∷ []
-    ≡ told.Whole (record { 0 = 500 }) ∷ told.Not ∷ told.Whole (record { 0 = 1005 }) ∷ []
+back : inSteps Metres 7000 ∷ inSteps Metres 1015 ∷ inSteps Tenths 1015 ∷ []
+    ≡ told.Whole (record { 0 = 700 }) ∷ told.Not ∷ told.Whole (record { 0 = 1015 }) ∷ []
 back = refl
 
--- 104,857 steps of 10 m are 1,048,570 m, which 20 bits hold, and one more is not
-fit : fitting 20 (inSteps Metres (inDecimetres Tens 104857)) ∷ fitting 20 (inSteps Metres (inDecimetres Tens 104858)) ∷ [] ≡ true ∷ false ∷ []
+-- 90,000 steps of 10 m are 900,000 m, which 20 bits hold, and 110,000 are too many
+fit : fitting 20 (inSteps Metres (inDecimetres Tens 90000)) ∷ fitting 20 (inSteps Metres (inDecimetres Tens 110000)) ∷ [] ≡ true ∷ false ∷ []
 fit = refl

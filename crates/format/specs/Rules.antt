@@ -97,10 +97,10 @@ next (sendTimes c g r) v = some (times v g r)
 
 -- ---- which rule a value breaks
 
--- What is decided apart from the rest and may change: the place that a refusal gives, for its kind, where the field began and the
--- value that it holds (0 where there is none), and whether a packet collides with an earlier one, for the Q_DIR that it holds.
+-- What is decided apart from the rest and may change: the place that a refusal gives, for its kind and the state before the field, and
+-- whether a packet collides with an earlier one, for the Q_DIR that it holds.
 pub record Terms : Type 0 where
-  pub placeOf : Kind → State → ℕ → ℕ
+  pub placeOf : Kind → State → ℕ
   pub collides : Context → ℕ → Bool
 
 abbrev pub known : Option Items → Bool
@@ -246,8 +246,8 @@ unfoldable pub placeFrom : Kind → ℕ → ℕ → Context → ℕ
 placeFrom k at past c = spotAt (spotOf k past c) at past c
 
 -- found at the field that is due. Its context has the L_PACKET of a CTCS packet, behind which every table has a field.
-unfoldable pub fieldPlace : Kind → State → ℕ → ℕ
-fieldPlace k s v = placeFrom k (s .at) (past s) (s .context)
+unfoldable pub fieldPlace : Kind → State → ℕ
+fieldPlace k s = placeFrom k (s .at) (past s) (s .context)
 
 -- ---- collisions
 

@@ -103,8 +103,8 @@ pub data Driven : Type 0 where
   ended : List Entry → State → List ℕ → Driven
   stopped : Refusal → Driven
 
-abbrev pub refusal : Terms → Kind → State → ℕ → Refusal
-refusal p k s v = record { kind = k; place = p .placeOf k s v }
+abbrev pub refusal : Terms → Kind → State → Refusal
+refusal p k s = record { kind = k; place = p .placeOf k s }
 
 abbrev pub push : Entry → Driven → Driven
 push e (ended es s xs) = ended (e ∷ es) s xs
@@ -114,15 +114,15 @@ push e (stopped r) = stopped r
 abbrev pub onNext : Terms → Next → State → ℕ → (State → Driven) → List ℕ → Driven
 onNext p (go t c) s v rest xs = push (entry s v) (rest (moved s t c))
 onNext p over s v rest xs = ended (entry s v ∷ []) s xs
-onNext p (breaks k) s v rest xs = stopped (refusal p k s v)
+onNext p (breaks k) s v rest xs = stopped (refusal p k s)
 
 abbrev pub onTaken : Terms → Taken → State → (ℕ → List ℕ → Driven) → Driven
 onTaken p (got v xs) s rest = rest v xs
-onTaken p (lacks k) s rest = stopped (refusal p k s 0)
+onTaken p (lacks k) s rest = stopped (refusal p k s)
 
 -- field by field, the first broken rule wins; every field takes something of the source, so that its length bounds the fields
 unfoldable pub drive : Terms → (State → List ℕ → Taken) → ℕ → State → List ℕ → Driven
-drive p source zero s xs = stopped (refusal p Ended s 0)
+drive p source zero s xs = stopped (refusal p Ended s)
 drive p source (suc k) s xs =
     onTaken p (source s xs) s (λ v ys. onNext p (step p s v) s v (λ t. drive p source k t ys) ys)
 
@@ -135,7 +135,7 @@ pub data Result : Type 0 where
 -- "11: bits, or values, follow the end mark"
 abbrev pub whole : Terms → Driven → Result
 whole p (ended es s []) = accepted es
-whole p (ended es s (x ∷ xs)) = refused (refusal p Trailing s 255)
+whole p (ended es s (x ∷ xs)) = refused (refusal p Trailing s)
 whole p (stopped r) = refused r
 
 unfoldable pub read : Terms → List ℕ → Result

@@ -15,7 +15,7 @@ use Rattle.laws.proofs.Turns.{one-field, one-mark, one-broken}
 -- what one field comes to, read from bits that begin with the value's and written from a list that begins with it
 pub data Alike (p : Terms) (s : State) (v : ℕ) (bs vs : List ℕ) (j k : ℕ) : Driven → Driven → Type 0 where
   -- both are refused, by the same rule at the same place
-  both-refuse : (x : Kind) → Alike p s v bs vs j k (stopped (refusal p x s v)) (stopped (refusal p x s v))
+  both-refuse : (x : Kind) → Alike p s v bs vs j k (stopped (refusal p x s)) (stopped (refusal p x s))
   -- both go on, with the same entry and from the same state
   both-go : (t : Items) (c : Context)
       → Alike p s v bs vs j k (push (entry s v) (drive p fromBits j (moved s t c) bs)) (push (entry s v) (drive p fromValues k (moved s t c) vs))

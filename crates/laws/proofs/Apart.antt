@@ -30,7 +30,7 @@ use Rattle.laws.proofs.Recalled.{Recalls, met-before, begins-apart, sen
 use Rattle.laws.proofs.Collided.{collides-is, allowed-apart, go-unbroken, breaks-repeated}
 
 -- the terms of a rule of directions, wherever their refusals point
-abbrev pub ruled : (Kind → State → ℕ → ℕ) → (ℕ → ℕ → Bool) → Terms
+abbrev pub ruled : (Kind → State → ℕ) → (ℕ → ℕ → Bool) → Terms
 ruled place collide = record { placeOf = place; collides = collidesBy collide }
 
 -- a pair that the entry behind the others makes: it is the Q_DIR of the later packet, whose NID_PACKET ends the others
@@ -47,7 +47,7 @@ new-pair-at h = ap bitCount (sym (h .ends))
 direction-only : {f : Field} {l : Level} → Offends Repeated f l → (f ≡ Q-DIR) × (l ≡ inPacket)
 direction-only packet-direction = (refl, refl)
 
-module _ (place : Kind → State → ℕ → ℕ) (collide : ℕ → ℕ → Bool) where
+module _ (place : Kind → State → ℕ) (collide : ℕ → ℕ → Bool) where
   abbrev p : Terms
   p = ruled place collide
 
@@ -164,7 +164,7 @@ pub finished : {p : Terms} {es : List Entry} → Telegram p es → Finished p es
 finished r = run-finished nothing r
 
 -- no telegram has a pair
-pub telegram-apart : (place : Kind → State → ℕ → ℕ) (collide : ℕ → ℕ → Bool) {es : List Entry} → Telegram (ruled place collide) es
+pub telegram-apart : (place : Kind → State → ℕ) (collide : ℕ → ℕ → Bool) {es : List Entry} → Telegram (ruled place collide) es
     → Pair collide es → ⊥
 telegram-apart place collide r h =
     let w = finished r in

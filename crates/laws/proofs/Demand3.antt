@@ -6,12 +6,12 @@ use mathlib.Core.Path.{_≡_, sym, ap, _∙_}
 use Prim.Native.Nat.{ℕ, _≤_}
 use lib.ListN.{length}
 use Rattle.format.specs.Rules.{Terms}
-use Rattle.format.specs.Telegrams.{Entry, bits, bitCount, names, places, Telegram}
+use Rattle.format.specs.Telegrams.{Entry, bits, bitCount, places, Telegram}
 use Rattle.format.specs.Normal.{view, says, metric, normal}
 use Rattle.format.specs.Normal.View.{scales}
 use Rattle.laws.proofs.Demand2.{length-bits}
 use Rattle.laws.proofs.Prefix.{bits-no-prefix}
-use Rattle.laws.proofs.Views.{fields-normal, names-normal, places-normal, bitCount-normal}
+use Rattle.laws.proofs.Views.{fields-normal, places-normal, bitCount-normal}
 use Rattle.laws.proofs.Told.{fair, fair-after, Tells, tells-same}
 use Rattle.laws.proofs.OneScale.{one-scale}
 use Rattle.laws.proofs.Kept.{says-normal, run-normal}
@@ -21,9 +21,6 @@ use Rattle.laws.proofs.Same.{normal-same}
 
 pub normal-fields : (es : List Entry) → map (λ (e : Entry). e .field) (normal es) ≡ map (λ (e : Entry). e .field) es
 normal-fields es = fields-normal 0 0 es
-
-pub normal-names : (es : List Entry) → names (normal es) ≡ names es
-normal-names es = names-normal 0 0 es
 
 pub normal-places : (at : ℕ) (es : List Entry) → places at (normal es) ≡ places at es
 normal-places at es = places-normal 0 0 at es
@@ -61,7 +58,7 @@ module _ (p : Terms) where
 
   -- "otherwise it keeps its scale, which is then the only one that can say it": where e is a scale and the distances after it, up to
   -- the next scale, are not all whole metres that fit, another scale has no counts of steps that fit the fields and say them
-  pub only-scale : (ds : List Entry) (e : Entry) (es : List Entry) → Telegram p (ds ++ e ∷ es) → view e es ≡ scales
+  pub only-scale : (ds : List Entry) (e : Entry) (es : List Entry) → Telegram p (ds ++ e ∷ es) → view e ≡ scales
       → metric (e .value) es ≡ false → (r : ℕ) → r ≤ 2 → (r ≡ e .value → ⊥) → Tells (e .value) r es → ⊥
   only-scale ds e es t h m r hr n =
       let f = fair-after ds (e ∷ es) (fair t) in

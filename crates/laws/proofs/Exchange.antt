@@ -1,7 +1,6 @@
 -- Neither a scale nor a distance steers: with another value there, the field has the same name and the same comes after it. For any
 -- terms. Assumes nothing.
 use mathlib.Core.Bool.{Bool, true, false, cond, _&&_}
-use mathlib.Core.List.{List}
 use mathlib.Core.Path.{_≡_, refl, sym, ap, _∙_, subst}
 use Prim.Native.Nat.{ℕ, _≤_}
 use native.Mathlib.Omega.{arith}
@@ -14,7 +13,7 @@ use Rattle.format.specs.Packets.{Items}
 use Rattle.format.specs.Packets.Items.{end, nest, send, sendIf, sendEither, sendTimes}
 use Rattle.format.specs.Rules.{State, Context, Terms, Next, step, field, due, named, past, next, ruleOf, broken, noted, onward, verdict, unless, forbidden}
 use Rattle.format.specs.Rules.Next.{go, over, breaks}
-use Rattle.format.specs.Telegrams.{Entry, entry}
+use Rattle.format.specs.Telegrams.{entry}
 use Rattle.format.specs.Normal.{viewOf, view, put}
 use Rattle.format.specs.Normal.View.{kept, scales, measures}
 
@@ -61,30 +60,25 @@ not-scales : (b : Bool) → cond b kept measures ≡ scales → ⊥
 not-scales true h = let z : _≡_ {A = ℕ} 0 1 = cc in omega arith
 not-scales false h = let z : _≡_ {A = ℕ} 0 1 = cc in omega arith
 
-scales-is : (k : Sense) (v : ℕ) (es : List Entry) → viewOf k v es ≡ scales → k ≡ scale
-scales-is (plain r) v es h = cc
-scales-is scale v es h = refl
-scales-is distance v es h = cc
-scales-is textLength v es h = absurd (not-scales (eqb v 32767) h)
+scales-is : (k : Sense) (v : ℕ) → viewOf k v ≡ scales → k ≡ scale
+scales-is (plain r) v h = cc
+scales-is scale v h = refl
+scales-is distance v h = cc
+scales-is textLength v h = absurd (not-scales (eqb v 32767) h)
 
--- a scale is one with any value, whatever comes after it
-pub scale-still : (k : Sense) (u v : ℕ) (es fs : List Entry) → viewOf k v es ≡ scales → viewOf k u fs ≡ scales
-scale-still k u v es fs h = rw (scales-is k v es h)
+-- a scale is one with any value
+pub scale-still : (k : Sense) (u v : ℕ) → viewOf k v ≡ scales → viewOf k u ≡ scales
+scale-still k u v h = rw (scales-is k v h)
 
 pub data Metric : Sense → Type 0 where
   always : Metric distance
   mostly : Metric textLength
 
-pub measures-is : (k : Sense) (v : ℕ) (es : List Entry) → viewOf k v es ≡ measures → Metric k
-measures-is (plain r) v es h = let z : _≡_ {A = ℕ} 0 1 = cc in absurd (omega arith)
-measures-is scale v es h = let z : _≡_ {A = ℕ} 0 1 = cc in absurd (omega arith)
-measures-is distance v es h = always
-measures-is textLength v es h = mostly
-
--- for a distance, nothing counts that comes after it
-pub distance-alone : {k : Sense} → Metric k → (v : ℕ) (es fs : List Entry) → viewOf k v es ≡ viewOf k v fs
-distance-alone always v es fs = refl
-distance-alone mostly v es fs = refl
+pub measures-is : (k : Sense) (v : ℕ) → viewOf k v ≡ measures → Metric k
+measures-is (plain r) v h = let z : _≡_ {A = ℕ} 0 1 = cc in absurd (omega arith)
+measures-is scale v h = let z : _≡_ {A = ℕ} 0 1 = cc in absurd (omega arith)
+measures-is distance v h = always
+measures-is textLength v h = mostly
 
 metric-free : {k : Sense} → Metric k → Free k
 metric-free always = tt
@@ -117,9 +111,9 @@ module _ (p : Terms) (s : State) (v u : ℕ) where
   broken-metric always = refl
   broken-metric mostly = refl
 
-  pub distance-alike : (es : List Entry) → view (entry s v) es ≡ measures → Alike p s v u
-  distance-alike es h =
-      let m = measures-is (named (s .todo) v .sense) v es h in
+  pub distance-alike : view (entry s v) ≡ measures → Alike p s v u
+  distance-alike h =
+      let m = measures-is (named (s .todo) v .sense) v h in
       let f = metric-free m in
       free-alike f (rw (due-sense f) (broken-metric m))
 
@@ -127,17 +121,17 @@ module _ (p : Terms) (s : State) (v u : ℕ) where
   unfolding broken
   broken-scale hu hv = rw (le-leb u 2 hu, le-leb v 2 hv, le-leb 0 u (omega arith), le-leb 0 v (omega arith))
 
-  pub scale-alike : (es : List Entry) → view (entry s v) es ≡ scales → u ≤ 2 → v ≤ 2 → Alike p s v u
-  scale-alike es h hu hv =
-      let k = scales-is (named (s .todo) v .sense) v es h in
+  pub scale-alike : view (entry s v) ≡ scales → u ≤ 2 → v ≤ 2 → Alike p s v u
+  scale-alike h hu hv =
+      let k = scales-is (named (s .todo) v .sense) v h in
       let f : Free (named (s .todo) v .sense) = rw k tt in
       free-alike f (rw (due-sense f, k) (broken-scale hu hv))
 
-pub scale-named : (s : State) (u v : ℕ) (es fs : List Entry) → view (entry s v) es ≡ scales → view (entry s u) fs ≡ scales
-scale-named s u v es fs h =
-    let k = scales-is (named (s .todo) v .sense) v es h in
+pub scale-named : (s : State) (u v : ℕ) → view (entry s v) ≡ scales → view (entry s u) ≡ scales
+scale-named s u v h =
+    let k = scales-is (named (s .todo) v .sense) v h in
     let f : Free (named (s .todo) v .sense) = rw k tt in
-    rw (named-free (s .todo) u v f .0) (scale-still (named (s .todo) v .sense) u v es fs h)
+    rw (named-free (s .todo) u v f .0) (scale-still (named (s .todo) v .sense) u v h)
 
 -- ---- a scale that breaks no rule is 0, 1 or 2
 
@@ -155,10 +149,10 @@ passed-scale p c v x h = by-test (leb 0 v) (leb v 2) refl h
     by-test true false e h = absurd h
     by-test false b e h = absurd h
 
-pub scale-le : (p : Terms) (s : State) (v : ℕ) (es : List Entry) → view (entry s v) es ≡ scales → Passes (step p s v) → v ≤ 2
+pub scale-le : (p : Terms) (s : State) (v : ℕ) → view (entry s v) ≡ scales → Passes (step p s v) → v ≤ 2
 unfolding step
-scale-le p s v es h ok =
-    let k = scales-is (named (s .todo) v .sense) v es h in
+scale-le p s v h ok =
+    let k = scales-is (named (s .todo) v .sense) v h in
     let f : Free (named (s .todo) v .sense) = rw k tt in
     passed-scale p (s .context) v (onward (past s) (next (s .todo) v) (noted (within 0 2) (s .context) (s .at) v))
     (rw (due-sense p s v v f ∙ k) at ok)

@@ -9,7 +9,8 @@ use Rattle.format.specs.Rules.{State, Context, Terms, Next, step, named, moved}
 use Rattle.format.specs.Rules.Next.{go, over}
 use Rattle.format.specs.Telegrams.{Entry, entry, Run, Telegram}
 use Rattle.format.specs.Telegrams.Run.{last, more}
-use Rattle.format.specs.Normal.{View, view, choose, decimetres, Said, saysUnder, says}
+use Rattle.distance.specs.Steps.{decimetres}
+use Rattle.format.specs.Normal.{View, view, choose, Said, saysUnder, says}
 use Rattle.format.specs.Normal.Said.{sent, apart, long}
 use Rattle.format.specs.Normal.View.{kept, scales, measures}
 use Rattle.laws.proofs.Exchange.{distance-alike, scale-alike, scale-named}
@@ -26,14 +27,14 @@ abbrev Same : ℕ → ℕ → List Entry → List Entry → Type 0
 Same q r a b = spoken (saysUnder q a) ≡ spoken (saysUnder r b) → saysUnder q a ≡ saysUnder r b
 
 -- two values at one state, and what follows each
-module _ (p : Terms) (q r : ℕ) (s : State) (u v : ℕ) (a b : List Entry) (fu : Fair (entry s u) a) (fv : Fair (entry s v) b)
+module _ (p : Terms) (q r : ℕ) (s : State) (u v : ℕ) (a b : List Entry) (fu : Fair (entry s u)) (fv : Fair (entry s v))
     (rest : step p s u ≡ step p s v → (q2 r2 : ℕ) → Same q2 r2 a b) where
   abbrev said : ℕ → ℕ → View → List Entry → List Said
   said t x k xs =
       let f = named (s .todo) x in
       choose k (sent f x) (apart f) (long f (decimetres t x)) ∷ saysUnder (choose k t x t) xs
 
-  spoken-at : (j k : View) → view (entry s u) a ≡ j → view (entry s v) b ≡ k → spoken (said q u j a) ≡ spoken (said r v k b)
+  spoken-at : (j k : View) → view (entry s u) ≡ j → view (entry s v) ≡ k → spoken (said q u j a) ≡ spoken (said r v k b)
       → said q u j a ≡ said r v k b
   unfolding spoken
   spoken-at kept kept hj hk h =
@@ -41,21 +42,21 @@ module _ (p : Terms) (q r : ℕ) (s : State) (u v : ℕ) (a b : List Entry) (fu 
       let t = rest (ap (step p s) e) q r (cc) in
       cc
   spoken-at scales scales hj hk h =
-      let i = scale-alike p s v u b hk (fu .known hj) (fv .known hk) in
+      let i = scale-alike p s v u hk (fu .known hj) (fv .known hk) in
       let n = i .name in
       let t = rest (i .same) u v h in
       cc
   spoken-at measures measures hj hk h =
-      let i = distance-alike p s v u b hk in
+      let i = distance-alike p s v u hk in
       let n = i .name in
       let t = rest (i .same) q r (cc) in
       cc
   spoken-at kept measures hj hk h = cc
   spoken-at measures kept hj hk h = cc
-  spoken-at kept scales hj hk h = let y = scale-named s u v b a hk in cc
-  spoken-at measures scales hj hk h = let y = scale-named s u v b a hk in cc
-  spoken-at scales kept hj hk h = let y = scale-named s v u a b hj in cc
-  spoken-at scales measures hj hk h = let y = scale-named s v u a b hj in cc
+  spoken-at kept scales hj hk h = let y = scale-named s u v hk in cc
+  spoken-at measures scales hj hk h = let y = scale-named s u v hk in cc
+  spoken-at scales kept hj hk h = let y = scale-named s v u hj in cc
+  spoken-at scales measures hj hk h = let y = scale-named s v u hj in cc
 
 -- a value does not lead two ways
 not-two : {A : Type 0} {x : Next} {t : Items} {c : Context} → x ≡ over → x ≡ go t c → A
@@ -71,13 +72,13 @@ same-state {p} s {t} {t2} {c} {c2} {b} h r =
 spoken-run : {p : Terms} {s : State} {a : List Entry} → Run p s a → {b : List Entry} → Run p s b → (q r : ℕ) → Same q r a b
 unfolding saysUnder
 spoken-run {p} (last {s = s} {v = u} f e) (last {v = v} g d) q r =
-    spoken-at p q r s u v [] [] (fair (last f e) .0) (fair (last g d) .0) (λ i q2 r2 h. refl) (view (entry s u) []) (view (entry s v) []) refl refl
+    spoken-at p q r s u v [] [] (fair (last f e) .0) (fair (last g d) .0) (λ i q2 r2 h. refl) (view (entry s u)) (view (entry s v)) refl refl
 spoken-run {p} (last {s = s} {v = u} f e) (more {v = v} {es = b} g d l) q r =
-    spoken-at p q r s u v [] b (fair (last f e) .0) (fair (more g d l) .0) (λ i. not-two (sym i ∙ e) d) (view (entry s u) []) (view (entry s v) b) refl refl
+    spoken-at p q r s u v [] b (fair (last f e) .0) (fair (more g d l) .0) (λ i. not-two (sym i ∙ e) d) (view (entry s u)) (view (entry s v)) refl refl
 spoken-run {p} (more {s = s} {v = u} {es = a} f e k) (last {v = v} g d) q r =
-    spoken-at p q r s u v a [] (fair (more f e k) .0) (fair (last g d) .0) (λ i. not-two (i ∙ d) e) (view (entry s u) a) (view (entry s v) []) refl refl
+    spoken-at p q r s u v a [] (fair (more f e k) .0) (fair (last g d) .0) (λ i. not-two (i ∙ d) e) (view (entry s u)) (view (entry s v)) refl refl
 spoken-run {p} (more {s = s} {v = u} {t = t} {c = c} {es = a} f e k) (more {v = v} {t = t2} {c = c2} {es = b} g d l) q r =
-    spoken-at p q r s u v a b (fair (more f e k) .0) (fair (more g d l) .0) (λ i q2 r2 h. spoken-run k (same-state s (sym d ∙ sym i ∙ e) l) q2 r2 h) (view (entry s u) a) (view (entry s v) b) refl refl
+    spoken-at p q r s u v a b (fair (more f e k) .0) (fair (more g d l) .0) (λ i q2 r2 h. spoken-run k (same-state s (sym d ∙ sym i ∙ e) l) q2 r2 h) (view (entry s u)) (view (entry s v)) refl refl
 
 -- "equal fields apart from Q_SCALE": accepted telegrams that say the same without the scales say the same
 pub left-out : {p : Terms} {a b : List Entry} → Telegram p a → Telegram p b → (spoken (says a) ≡ spoken (says b)) ↔ (says a ≡ says b)

@@ -1,7 +1,6 @@
 -- What a program tests of one distance: whole metres, and the width of its field. That the unlimited text length never comes of a finite
 -- one follows. Assumes nothing.
 use mathlib.Core.Bool.{Bool, true, false, _&&_}
-use mathlib.Core.List.{List}
 use mathlib.Core.Path.{_≡_, refl}
 use Prim.Native.Nat.{ℕ, zero, suc, _%_, _^_, _<_, _≤_}
 use native.Mathlib.Omega.{arith}
@@ -9,8 +8,8 @@ use lib.Dec.{eqb, ltb}
 use borrow.Author.Tests.{eq-eqb, ne-eqb}
 use Rattle.format.specs.Fields.{Field, Sense}
 use Rattle.format.specs.Fields.Sense.{plain, scale, distance, textLength}
-use Rattle.format.specs.Telegrams.{Entry}
-use Rattle.format.specs.Normal.{viewOf, decimetres, steps, metres}
+use Rattle.distance.specs.Steps.{decimetres, steps}
+use Rattle.format.specs.Normal.{viewOf, metres}
 use Rattle.format.specs.Normal.View.{kept, measures}
 
 -- a text length of 15 bits, limited under the scale q, is limited in metres
@@ -20,27 +19,27 @@ limited (suc zero) v hq h n e = n (omega arith)
 limited (suc (suc zero)) v hq h n e = omega arith
 limited (suc (suc (suc q))) v hq h n e = omega arith
 
-not-unlimited : (v : ℕ) (es : List Entry) → viewOf textLength v es ≡ measures → v ≡ 32767 → ⊥
-not-unlimited v es h e =
-    let u : viewOf textLength v es ≡ kept = rw (eq-eqb v 32767 e) in
+not-unlimited : (v : ℕ) → viewOf textLength v ≡ measures → v ≡ 32767 → ⊥
+not-unlimited v h e =
+    let u : viewOf textLength v ≡ kept = rw (eq-eqb v 32767 e) in
     let z : _≡_ {A = ℕ} 0 1 = cc in
     omega arith
 
-pub metres-finite : (k : Sense) (q v : ℕ) (es : List Entry) → q ≤ 2 → (k ≡ textLength → v < 32768) → viewOf k v es ≡ measures
-    → viewOf k (steps 1 (decimetres q v)) es ≡ measures
-metres-finite (plain r) q v es hq s h = h
-metres-finite scale q v es hq s h = h
-metres-finite distance q v es hq s h = refl
-metres-finite textLength q v es hq s h =
-    rw (ne-eqb (steps 1 (decimetres q v)) 32767 (limited q v hq (s refl) (not-unlimited v es h)))
+pub metres-finite : (k : Sense) (q v : ℕ) → q ≤ 2 → (k ≡ textLength → v < 32768) → viewOf k v ≡ measures
+    → viewOf k (steps 1 (decimetres q v)) ≡ measures
+metres-finite (plain r) q v hq s h = h
+metres-finite scale q v hq s h = h
+metres-finite distance q v hq s h = refl
+metres-finite textLength q v hq s h =
+    rw (ne-eqb (steps 1 (decimetres q v)) 32767 (limited q v hq (s refl) (not-unlimited v h)))
 
 and-true : (b : Bool) → (b && true) ≡ b
 and-true true = refl
 and-true false = refl
 
 -- the two tests
-pub metres-tests : (f : Field) (q v : ℕ) (es : List Entry) → q ≤ 2 → (f .sense ≡ textLength → v < 32768) → viewOf (f .sense) v es ≡ measures
-    → metres f (decimetres q v) es ≡ eqb (decimetres q v % 10) 0 && ltb (steps 1 (decimetres q v)) (2 ^ f .width)
-metres-tests f q v es hq s h =
-    rw (metres-finite (f .sense) q v es hq s h)
+pub metres-tests : (f : Field) (q v : ℕ) → q ≤ 2 → (f .sense ≡ textLength → v < 32768) → viewOf (f .sense) v ≡ measures
+    → metres f (decimetres q v) ≡ eqb (decimetres q v % 10) 0 && ltb (steps 1 (decimetres q v)) (2 ^ f .width)
+metres-tests f q v hq s h =
+    rw (metres-finite (f .sense) q v hq s h)
     (and-true (eqb (decimetres q v % 10) 0 && ltb (steps 1 (decimetres q v)) (2 ^ f .width)))

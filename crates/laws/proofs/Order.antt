@@ -18,36 +18,35 @@ use Rattle.format.specs.Refusals.{numberOf}
 use Rattle.format.specs.Rules.{Terms, State, Context, Level, field, past, next, ruleOf, known, unless, forbidden, radioFrom, misdirected, broken, noted, closes, fresh, settled, onward, verdict, step}
 use Rattle.format.specs.Rules.Level.{inHeader, inPacket, inUser}
 use Rattle.format.specs.Rules.Next.{go, breaks}
-use Rattle.format.specs.Telegrams.{bits, fromBits, fromValues, refusal, drive}
+use Rattle.format.specs.Telegrams.{fromBits, fromValues, refusal, drive}
 use Rattle.format.specs.Telegrams.Driven.{stopped}
 use Rattle.format.specs.declared.Kind.{Kind}
 use Rattle.format.specs.declared.Kind.the-variants.{Header, Ended, Unknown, Value, Length, Direction, Repeated, Wide, Full}
-use Rattle.laws.proofs.Refused.Refused.{later}
 
 -- ---- the order of the rules at one field
 -- "At one field: 5, 12, 13, then 4, 6 or 7, then 9 (inner Q_DIR) or 10 (outer Q_DIR). 8 is tested after a packet's last field"
 
 module _ (p : Terms) (s : State) where
   -- 5 first: where the bits end inside the field that is due, no other rule is asked
-  pub order-bits-ended : (k : ℕ) (bs : List ℕ) → length bs < field s .width → drive p fromBits k s bs ≡ stopped (refusal p Ended s 0)
+  pub order-bits-ended : (k : ℕ) (bs : List ℕ) → length bs < field s .width → drive p fromBits k s bs ≡ stopped (refusal p Ended s)
   unfolding drive fromBits
   order-bits-ended zero bs h = refl
   order-bits-ended (suc k) bs h = rw (lt-leb (field s .width) (length bs) h)
 
   -- and where there is no value
-  pub order-values-ended : (k : ℕ) → drive p fromValues k s [] ≡ stopped (refusal p Ended s 0)
+  pub order-values-ended : (k : ℕ) → drive p fromValues k s [] ≡ stopped (refusal p Ended s)
   unfolding drive fromValues
   order-values-ended zero = refl
   order-values-ended (suc k) = refl
 
   -- then 12, whether or not the field ends past bit 830
-  pub order-wide : (k v : ℕ) (vs : List ℕ) → 2 ^ field s .width ≤ v → drive p fromValues (suc k) s (v ∷ vs) ≡ stopped (refusal p Wide s 0)
+  pub order-wide : (k v : ℕ) (vs : List ℕ) → 2 ^ field s .width ≤ v → drive p fromValues (suc k) s (v ∷ vs) ≡ stopped (refusal p Wide s)
   unfolding drive fromValues
   order-wide k v vs h = rw (le-ltb v (2 ^ field s .width) h)
 
   -- then 13
   pub order-full : (k v : ℕ) (vs : List ℕ) → v < 2 ^ field s .width → 830 < past s
-      → drive p fromValues (suc k) s (v ∷ vs) ≡ stopped (refusal p Full s 0)
+      → drive p fromValues (suc k) s (v ∷ vs) ≡ stopped (refusal p Full s)
   unfolding drive fromValues
   order-full k v vs h g = rw (lt-ltb v (2 ^ field s .width) h, lt-leb (past s) 830 g)
 

@@ -77,29 +77,29 @@ sends-at {p} (one-more {es = es} {s = s} v h f e) = past-bits p es s v (sends-at
 
 -- ---- the place of each kind
 
-missing-place : {k : Kind} (s : State) (v : ℕ) → Missing k → fieldPlace k s v ≡ s .at
+missing-place : {k : Kind} (s : State) → Missing k → fieldPlace k s ≡ s .at
 unfolding fieldPlace placeFrom spotOf spotAt
-missing-place s v ended = refl
-missing-place s v wide = refl
-missing-place s v full = refl
+missing-place s ended = refl
+missing-place s wide = refl
+missing-place s full = refl
 
-offends-place : {k : Kind} {f : Field} {l : Level} (s : State) (v : ℕ) → Offends k f l → fieldPlace k s v ≡ s .at
+offends-place : {k : Kind} {f : Field} {l : Level} (s : State) → Offends k f l → fieldPlace k s ≡ s .at
 unfolding fieldPlace placeFrom spotOf spotAt
-offends-place s v in-header = refl
-offends-place s v packet-name = refl
-offends-place s v user-name = refl
-offends-place s v in-packet = refl
-offends-place s v in-user = refl
-offends-place s v user-direction = refl
-offends-place s v packet-direction = refl
+offends-place s in-header = refl
+offends-place s packet-name = refl
+offends-place s user-name = refl
+offends-place s in-packet = refl
+offends-place s in-user = refl
+offends-place s user-direction = refl
+offends-place s packet-direction = refl
 
-trailing-place : (s : State) (v : ℕ) → fieldPlace Trailing s v ≡ past s
+trailing-place : (s : State) → fieldPlace Trailing s ≡ past s
 unfolding fieldPlace placeFrom spotOf spotAt
-trailing-place s v = refl
+trailing-place s = refl
 
-length-place : (s : State) (v : ℕ) → fieldPlace Length s v ≡ placeFrom Length (s .at) (past s) (s .context)
+length-place : (s : State) → fieldPlace Length s ≡ placeFrom Length (s .at) (past s) (s .context)
 unfolding fieldPlace
-length-place s v = refl
+length-place s = refl
 
 -- ---- from any source
 
@@ -109,14 +109,14 @@ module _ (collides : Context → ℕ → Bool) (source : State → List ℕ → 
   p = pointing collides
 
   broken-points : (es : List Entry) (s : State) (v : ℕ) (xs ys : List ℕ) (k : Kind) → s .at ≡ bitCount es → Stands es s
-      → source s xs ≡ got v ys → step p s v ≡ breaks k → Points p source es s xs (refusal p k s v)
+      → source s xs ≡ got v ys → step p s v ≡ breaks k → Points p source es s xs (refusal p k s)
   broken-points es s v xs ys k a h e f = by-way (stepped p s v) f
     where
-      by-way : {n : Next} → Stepped p s v n → n ≡ breaks k → Points p source es s xs (refusal p k s v)
+      by-way : {n : Next} → Stepped p s v n → n ≡ breaks k → Points p source es s xs (refusal p k s)
       by-way (forbidden {k = m} b) i =
           let ek : m ≡ k = cc in
           let o = offends p s v k h (rw ek at b) in
-          rw (offends-place s v o ∙ a) (breaking e f o)
+          rw (offends-place s o ∙ a) (breaking e f o)
       by-way (marked b j) i = let z : _≡_ {A = ℕ} 0 1 = cc in absurd (omega arith)
       by-way (noticed b j (on g)) i = let z : _≡_ {A = ℕ} 0 1 = cc in absurd (omega arith)
       by-way (noticed b j (closed g)) i = let z : _≡_ {A = ℕ} 0 1 = cc in absurd (omega arith)
@@ -126,7 +126,7 @@ module _ (collides : Context → ℕ → Bool) (source : State → List ℕ → 
           let after = stands-next p es s v u a h b j in
           let still = after .still g in
           let w = wrong (past s) d (past-bits p es s v a) (s .at) (rw g at (after .amid)) q in
-          rw (← ek, length-place s v)
+          rw (← ek, length-place s)
           (sizing e (rw (← ek) at f) (subst₂ (λ l x. Wrong (es ++ (entry s v ∷ [])) l x) (sym (still .level)) (sym (still .place (s .at) (past s))) w))
 
   module _ (whole : List ℕ) where
@@ -134,11 +134,11 @@ module _ (collides : Context → ℕ → Bool) (source : State → List ℕ → 
         → whole ≡ all part es ++ xs → Good s xs → Pointed p source part whole r
     pointed-from es (refusals.lacking {s = s} {xs = xs} {k = k} e) sends h i g =
         let m = missing s xs k e in
-        rw (missing-place s 0 m ∙ sends-at sends) (record { sent = es; state = s; left = xs; sends = sends; front = i; points = lacking e m })
+        rw (missing-place s m ∙ sends-at sends) (record { sent = es; state = s; left = xs; sends = sends; front = i; points = lacking e m })
     pointed-from es (refusals.breaking {s = s} {v = v} {xs = xs} {ys = ys} {k = k} e f) sends h i g =
         record { sent = es; state = s; left = xs; sends = sends; front = i; points = broken-points es s v xs ys k (sends-at sends) h e f }
     pointed-from es (refusals.trailing {s = s} {v = v} {xs = xs} e f) sends h i g =
-        rw (trailing-place s 255 ∙ past-bits p es s v (sends-at sends))
+        rw (trailing-place s ∙ past-bits p es s v (sends-at sends))
         (record { sent = es; state = s; left = xs; sends = sends; front = i; points = trailing e f })
     pointed-from es (refusals.later {s = s} {v = v} {xs = xs} {ys = ys} {t = t} {c = c} e f q) sends h i g =
         let had = law .taken s v xs ys g e in

@@ -24,11 +24,11 @@ use Rattle.laws.proofs.Turns.{shorter, any-bound, one-field, one-mark, 
 -- A source is refused from a state on: every field before passes, and at this one the source has no value for it, or its value breaks
 -- a rule; or it is the end mark and something is left. The refusal is the kind, with the place that the terms give for it here.
 pub data Refused (p : Terms) (source : State → List ℕ → Taken) : State → List ℕ → Refusal → Type 0 where
-  lacking : {s : State} {xs : List ℕ} {k : Kind} → source s xs ≡ lacks k → Refused p source s xs (refusal p k s 0)
+  lacking : {s : State} {xs : List ℕ} {k : Kind} → source s xs ≡ lacks k → Refused p source s xs (refusal p k s)
   breaking : {s : State} {v : ℕ} {xs ys : List ℕ} {k : Kind} → source s xs ≡ got v ys → step p s v ≡ breaks k
-      → Refused p source s xs (refusal p k s v)
+      → Refused p source s xs (refusal p k s)
   trailing : {s : State} {v y : ℕ} {xs ys : List ℕ} → source s xs ≡ got v (y ∷ ys) → step p s v ≡ over
-      → Refused p source s xs (refusal p Trailing s 255)
+      → Refused p source s xs (refusal p Trailing s)
   later : {s : State} {v : ℕ} {xs ys : List ℕ} {t : Items} {c : Context} {r : Refusal} → source s xs ≡ got v ys → step p s v ≡ go t c
       → Refused p source (moved s t c) ys r → Refused p source s xs r
 
@@ -56,7 +56,7 @@ module _ (p : Terms) (source : State → List ℕ → Taken) (part : Entry → L
     by-mark : (v : ℕ) (ys : List ℕ) → source s xs ≡ got v ys → step p s v ≡ over → whole p (ended (entry s v ∷ []) s ys) ≡ refused r
         → Refused p source s xs r
     by-mark v [] e o h = let z : _≡_ {A = ℕ} 0 1 = cc in absurd (omega arith)
-    by-mark v (y ∷ ys) e o h = let er : refusal p Trailing s 255 ≡ r = cc in rw (← er) (trailing e o)
+    by-mark v (y ∷ ys) e o h = let er : refusal p Trailing s ≡ r = cc in rw (← er) (trailing e o)
 
     by-next : (v : ℕ) (ys : List ℕ) (n : Next) → Good s xs → source s xs ≡ got v ys → step p s v ≡ n
         → whole p (onNext p n s v (λ t. drives t ys) ys) ≡ refused r → Refused p source s xs r
@@ -65,12 +65,12 @@ module _ (p : Terms) (source : State → List ℕ → Taken) (part : Entry → L
         (ih (moved s t c) ys (law .taken s v xs ys g e .good t c) (shorter p source part Good law s v xs ys g e)
         (whole-push p (entry s v) (drives (moved s t c) ys) r .1 h))
     by-next v ys over g e o h = by-mark v ys e o h
-    by-next v ys (breaks k) g e o h = let er : refusal p k s v ≡ r = cc in rw (← er) (breaking e o)
+    by-next v ys (breaks k) g e o h = let er : refusal p k s ≡ r = cc in rw (← er) (breaking e o)
 
     by-taken : (a : Taken) → Good s xs → source s xs ≡ a
         → whole p (onTaken p a s (λ v ys. onNext p (step p s v) s v (λ t. drives t ys) ys)) ≡ refused r → Refused p source s xs r
     by-taken (got v ys) g e h = by-next v ys (step p s v) g e refl h
-    by-taken (lacks k) g e h = let er : refusal p k s 0 ≡ r = cc in rw (← er) (lacking e)
+    by-taken (lacks k) g e h = let er : refusal p k s ≡ r = cc in rw (← er) (lacking e)
 
   -- under a bound that is never met
   refused-is : (b : ℕ) (s : State) (xs : List ℕ) (r : Refusal) → Good s xs → length xs < b

@@ -119,10 +119,10 @@ module _ (p q : Terms) (weaker : Weaker p q) where
 -- ---- just the pairs
 
 -- the terms without rule 10, wherever their refusals point
-abbrev pub lenient : (Kind → State → ℕ → ℕ) → Terms
+abbrev pub lenient : (Kind → State → ℕ) → Terms
 lenient place = record { placeOf = place; collides = λ c v. false }
 
-module _ (place : Kind → State → ℕ → ℕ) (collide : ℕ → ℕ → Bool) where
+module _ (place : Kind → State → ℕ) (collide : ℕ → ℕ → Bool) where
   -- a run that halts has a pair
   halted-pair : {es : List Entry} → Halted (ruled place collide) es → Pair collide es
   halted-pair h = subst (Pair collide) (sym (h .parts)) (pair-grown (repeated-pair place collide (h .sends) (h .repeats) .pair) (h .left))

@@ -1,7 +1,7 @@
 -- For a loop that reads or writes field by field: one turn of the driver for each outcome, the entries that were pushed before it, and
 -- that the bound on the fields is no part of the answer. Assumes nothing.
 use mathlib.Core.List.{List, [], _∷_, _++_}
-use mathlib.Core.Path.{_≡_, refl, sym, ap, _∙_}
+use mathlib.Core.Path.{_≡_, refl, ap, _∙_}
 use Prim.Native.Nat.{ℕ, zero, suc, _<_, _≤_}
 use native.Mathlib.Omega.{arith}
 use lib.ListN.{length, length-append}
@@ -32,12 +32,12 @@ module _ (p : Terms) (source : State → List ℕ → Taken) (k : ℕ) (s : Stat
 
   -- a field whose value breaks a rule
   pub one-broken : (v : ℕ) (ys : List ℕ) (n : Kind) → source s xs ≡ got v ys → step p s v ≡ breaks n
-      → drive p source (suc k) s xs ≡ stopped (refusal p n s v)
+      → drive p source (suc k) s xs ≡ stopped (refusal p n s)
   unfolding drive
   one-broken v ys n e h = rw (e, h)
 
   -- a field that the source lacks
-  pub one-lacking : (n : Kind) → source s xs ≡ lacks n → drive p source (suc k) s xs ≡ stopped (refusal p n s 0)
+  pub one-lacking : (n : Kind) → source s xs ≡ lacks n → drive p source (suc k) s xs ≡ stopped (refusal p n s)
   unfolding drive
   one-lacking n e = rw e
 
@@ -61,13 +61,6 @@ pushes-ended (e ∷ es) fs s xs = ap (push e) (pushes-ended es fs s xs)
 pub pushes-stopped : (es : List Entry) (r : Refusal) → pushes es (stopped r) ≡ stopped r
 pushes-stopped [] r = refl
 pushes-stopped (e ∷ es) r = ap (push e) (pushes-stopped es r)
-
--- one field more, in a loop that has es behind it
-pub pushes-field : (p : Terms) (source : State → List ℕ → Taken) (es : List Entry) (k : ℕ) (s : State) (v : ℕ) (xs ys : List ℕ) (t : Items) (c : Context)
-    → source s xs ≡ got v ys → step p s v ≡ go t c
-    → pushes es (drive p source (suc k) s xs) ≡ pushes (es ++ (entry s v ∷ [])) (drive p source k (moved s t c) ys)
-pushes-field p source es k s v xs ys t c e h =
-    ap (pushes es) (one-field p source k s xs v ys t c e h) ∙ sym (pushes-one es (entry s v) (drive p source k (moved s t c) ys))
 
 -- ---- any bound
 

@@ -4,72 +4,60 @@ use mathlib.Core.Bool.{true, _&&_}
 use mathlib.Core.List.{List, [], _∷_, _++_, map}
 use mathlib.Core.Path.{_≡_, refl, ap}
 use Prim.Native.Nat.{ℕ, suc, _+_}
-use Prim.Native.String.{String}
 use lib.ListN.{length}
-use Rattle.format.specs.Fields.{Field, Sense}
-use Rattle.format.specs.Fields.Sense.{plain, scale, distance, textLength}
-use Rattle.format.specs.Telegrams.{Entry, names, places, bitCount}
-use Rattle.format.specs.Normal.{viewOf, view, decimetres, steps, saysUnder, metres, metric, best, put, normalUnder}
+use Rattle.format.specs.Fields.{Field}
+use Rattle.format.specs.Telegrams.{Entry, places, bitCount}
+use Rattle.distance.specs.Steps.{decimetres, steps}
+use Rattle.format.specs.Normal.{view, saysUnder, metres, metric, best, put, normalUnder}
 use Rattle.format.specs.Normal.Said.{sent, apart, long}
 use Rattle.format.specs.Normal.View.{kept, scales, measures}
 
 module _ (e : Entry) (es : List Entry) where
   -- ---- an entry that counts as it was sent
 
-  pub says-kept : (q : ℕ) → view e es ≡ kept → saysUnder q (e ∷ es) ≡ sent (e .field) (e .value) ∷ saysUnder q es
+  pub says-kept : (q : ℕ) → view e ≡ kept → saysUnder q (e ∷ es) ≡ sent (e .field) (e .value) ∷ saysUnder q es
   unfolding saysUnder
   says-kept q h = rw h
 
-  pub metric-kept : (q : ℕ) → view e es ≡ kept → metric q (e ∷ es) ≡ metric q es
+  pub metric-kept : (q : ℕ) → view e ≡ kept → metric q (e ∷ es) ≡ metric q es
   unfolding metric
   metric-kept q h = rw h
 
-  pub normal-kept : (q r : ℕ) → view e es ≡ kept → normalUnder q r (e ∷ es) ≡ e ∷ normalUnder q r es
+  pub normal-kept : (q r : ℕ) → view e ≡ kept → normalUnder q r (e ∷ es) ≡ e ∷ normalUnder q r es
   unfolding normalUnder
   normal-kept q r h = rw h
 
   -- ---- a scale
 
-  pub says-scales : (q : ℕ) → view e es ≡ scales → saysUnder q (e ∷ es) ≡ apart (e .field) ∷ saysUnder (e .value) es
+  pub says-scales : (q : ℕ) → view e ≡ scales → saysUnder q (e ∷ es) ≡ apart (e .field) ∷ saysUnder (e .value) es
   unfolding saysUnder
   says-scales q h = rw h
 
-  pub metric-scales : (q : ℕ) → view e es ≡ scales → metric q (e ∷ es) ≡ true
+  pub metric-scales : (q : ℕ) → view e ≡ scales → metric q (e ∷ es) ≡ true
   unfolding metric
   metric-scales q h = rw h
 
-  pub normal-scales : (q r : ℕ) → view e es ≡ scales
+  pub normal-scales : (q r : ℕ) → view e ≡ scales
       → normalUnder q r (e ∷ es) ≡ put e (best (e .value) es) ∷ normalUnder (e .value) (best (e .value) es) es
   unfolding normalUnder
   normal-scales q r h = rw h
 
   -- ---- a distance
 
-  pub says-measures : (q : ℕ) → view e es ≡ measures
+  pub says-measures : (q : ℕ) → view e ≡ measures
       → saysUnder q (e ∷ es) ≡ long (e .field) (decimetres q (e .value)) ∷ saysUnder q es
   unfolding saysUnder
   says-measures q h = rw h
 
-  pub metric-measures : (q : ℕ) → view e es ≡ measures
-      → metric q (e ∷ es) ≡ metres (e .field) (decimetres q (e .value)) es && metric q es
+  pub metric-measures : (q : ℕ) → view e ≡ measures
+      → metric q (e ∷ es) ≡ metres (e .field) (decimetres q (e .value)) && metric q es
   unfolding metric
   metric-measures q h = rw h
 
-  pub normal-measures : (q r : ℕ) → view e es ≡ measures
+  pub normal-measures : (q r : ℕ) → view e ≡ measures
       → normalUnder q r (e ∷ es) ≡ put e (steps r (decimetres q (e .value))) ∷ normalUnder q r es
   unfolding normalUnder
   normal-measures q r h = rw h
-
--- ---- an entry counts in the normal form as it did
-
-sense-normal : (k : Sense) (v q r : ℕ) (es : List Entry) → viewOf k v (normalUnder q r es) ≡ viewOf k v es
-sense-normal (plain c) v q r es = refl
-sense-normal scale v q r es = refl
-sense-normal distance v q r es = refl
-sense-normal textLength v q r es = refl
-
-pub view-normal : (q r : ℕ) (e : Entry) (es : List Entry) → view e (normalUnder q r es) ≡ view e es
-view-normal q r e es = sense-normal (e .field .sense) (e .value) q r es
 
 -- ---- after the last entry
 
@@ -87,11 +75,6 @@ pub fields-normal : (q r : ℕ) (es : List Entry) → map (λ (e : Entry). e .fi
 unfolding normalUnder
 fields-normal q r [] = refl
 fields-normal q r (e ∷ es) = ap (λ (l : List Field). e .field ∷ l) (fields-normal _ _ es)
-
-pub names-normal : (q r : ℕ) (es : List Entry) → names (normalUnder q r es) ≡ names es
-unfolding normalUnder
-names-normal q r [] = refl
-names-normal q r (e ∷ es) = ap (λ (l : List String). e .field .name ∷ l) (names-normal _ _ es)
 
 pub places-normal : (q r at : ℕ) (es : List Entry) → places at (normalUnder q r es) ≡ places at es
 unfolding normalUnder
@@ -114,7 +97,7 @@ pub record Scaled (ds : List Entry) (e : Entry) (es fs : List Entry) : Type 0 wh
 further : {ds es fs : List Entry} {e : Entry} (c d : Entry) → Scaled ds e es fs → Scaled (c ∷ ds) e es (d ∷ fs)
 further c d t = record { front = d ∷ t .front; as-many = ap suc (t .as-many); is = ap (λ (l : List Entry). d ∷ l) (t .is) }
 
-pub normal-scaled : (q r : ℕ) (ds : List Entry) (e : Entry) (es : List Entry) → view e es ≡ scales
+pub normal-scaled : (q r : ℕ) (ds : List Entry) (e : Entry) (es : List Entry) → view e ≡ scales
     → Scaled ds e es (normalUnder q r (ds ++ e ∷ es))
 unfolding normalUnder
 normal-scaled q r [] e es h = record { front = []; as-many = refl; is = normal-scales e es q r h }

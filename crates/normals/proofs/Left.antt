@@ -6,7 +6,7 @@ use mathlib.Core.Path.{_≡_, refl, sym, ap, ap₂, _∙_}
 use Prim.Native.Nat.{ℕ, _≤_}
 use native.Mathlib.Omega.{arith}
 use lib.ListN.{length, take}
-use Rattle.bits.specs.Bits.{bytesOf, bytesFor}
+use Rattle.bits.specs.Bits.{bytesOf, bytesFor, same}
 use Rattle.format.specs.Normal.{says, normal}
 use Rattle.format.specs.Rules.{Terms}
 use Rattle.format.specs.Telegrams.{Entry, Result, bits}
@@ -20,7 +20,7 @@ use Rattle.states.specs.Writer.{bytesOver}
 use Rattle.states.specs.Normaliser.{Normalise}
 use Rattle.states.proofs.Accepting.{one-telegram}
 use Rattle.states.proofs.Rooms.{roomy}
-use Rattle.normals.specs.Normals.{same, Renormalised, alike, SaysSame, Ready}
+use Rattle.normals.specs.Normals.{Renormalised, alike, SaysSame, Ready}
 use Rattle.normals.specs.declared.Alike.{Alike}
 use Rattle.normals.specs.declared.Alike.the-variants.{Same, Other}
 use Rattle.normals.proofs.Forms.{form, original, form-telegram, form-is, form-accepted, bits-long, gives, front, ready, given-size}

@@ -1,11 +1,12 @@
 -- Demand 3: "A normal form is itself accepted .. and normalising it again changes nothing"; two accepted telegrams "say the same ..
 -- exactly when their normal forms have the same bits". Definitions alone.
-use mathlib.Core.Bool.{Bool, true, false, cond, _&&_}
-use mathlib.Core.List.{List, [], _∷_}
+use mathlib.Core.Bool.{cond}
+use mathlib.Core.List.{List}
 use mathlib.Core.Path.{_≡_}
 use Prim.Native.Nat.{ℕ, _≤_}
-use lib.Dec.{eqb, leb}
+use lib.Dec.{leb}
 use lib.ListN.{length}
+use Rattle.bits.specs.Bits.{same}
 use Rattle.format.specs.Normal.{normal}
 use Rattle.format.specs.Refusals as refusals
 use Rattle.format.specs.Rules.{Terms}
@@ -52,12 +53,6 @@ noRoom = record { kind = Room; place = 0 }
 -- lent so many bytes for each normal form. "Order: 1, then .."
 abbrev pub pairInto : Terms → List ℕ → ℕ → List ℕ → ℕ → ℕ → ℕ → Pair
 pairInto p s n t m x y = cond (leb 104 x) (cond (leb 104 y) (pairOf (checked p s n) (checked p t m)) (second noRoom)) (first noRoom)
-
-abbrev pub same : List ℕ → List ℕ → Bool
-same [] [] = true
-same [] (c ∷ cs) = false
-same (b ∷ bs) [] = false
-same (b ∷ bs) (c ∷ cs) = eqb b c && same bs cs
 
 -- whether the two normal forms have the same bits, or which telegram is refused
 abbrev pub alike : Pair → Alike

@@ -41,7 +41,7 @@ pub import-left : (before : List ℕ) {a b : Imported} → Alike-import a b → 
 import-left before same = refl
 import-left before (both-refused-by h) = refl
 
-module _ (place other : Kind → State → ℕ → ℕ) (collides : Context → ℕ → Bool) where
+module _ (place other : Kind → State → ℕ) (collides : Context → ℕ → Bool) where
   pub export-alike : (s : List ℕ) (n room : ℕ) → Alike (exported (p place other collides) s n room) (exported (q place other collides) s n room)
   unfolding exported
   export-alike s n room = tested-alike (leb 65536 room) Room (check-alike place other collides s n)

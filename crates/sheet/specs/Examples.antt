@@ -49,11 +49,11 @@ sheets = refl
 abbrev line : List ℕ → List ℕ → List ℕ
 line text rest = text ++ crlf ++ rest
 
--- document 01's case 1, with these three rows in the place of Q_UPDOWN's, M_VERSION's and the end mark's
+-- a header and the end mark, with these three rows in the place of Q_UPDOWN's, M_VERSION's and the end mark's
 abbrev sheetWith : List ℕ → List ℕ → List ℕ → List ℕ
 sheetWith first second end =
-    heading ++ line first (line second (line (textOf "Q_MEDIA,1,0") (line (textOf "N_PIG,3,0") (line (textOf "N_TOTAL,3,1") (line (textOf "M_DUP,2,0")
-    (line (textOf "M_MCOUNT,8,255") (line (textOf "NID_C,10,9") (line (textOf "NID_BG,14,3007") (line (textOf "Q_LINK,1,1") (line end []))))))))))
+    heading ++ line first (line second (line (textOf "Q_MEDIA,1,0") (line (textOf "N_PIG,3,1") (line (textOf "N_TOTAL,3,2") (line (textOf "M_DUP,2,0")
+    (line (textOf "M_MCOUNT,8,30") (line (textOf "NID_C,10,21") (line (textOf "NID_BG,14,4100") (line (textOf "Q_LINK,1,0") (line end []))))))))))
 
 unfoldable answer : List ℕ → Reply
 unfolding imported sheetIn heading begins rowsIn rowIn fields labelText decimalIn digitsFrom digitsOf sixteenIn placesFrom write drive begun fromValues step next find etcs ctcs header times _⧺_ broken misdirected noted settled onward closes radioFrom spotOf spotAt placeFrom fieldPlace collidesBy among clash valuesIn numbersIn
@@ -75,16 +75,16 @@ others : answer (sheetWith (textOf "Q_UPDOWN,1,1") (textOf "M_VERSION,7,16") (te
 unfolding answer
 others = refl
 
--- two ETCS-132, the first for one way, and the end mark
-abbrev dangers : List ℕ → List ℕ
-dangers way =
-    line (textOf "NID_PACKET,8,132") (line (textOf "Q_DIR,2,1") (line (textOf "L_PACKET,13,24") (line (textOf "Q_ASPECT,1,0")
-    (line (textOf "NID_PACKET,8,132") (line way (line (textOf "L_PACKET,13,24") (line (textOf "Q_ASPECT,1,0") (textOf "END,8,255"))))))))
+-- two ETCS-137, the first for one way, and the end mark
+abbrev stops : List ℕ → List ℕ
+stops way =
+    line (textOf "NID_PACKET,8,137") (line (textOf "Q_DIR,2,1") (line (textOf "L_PACKET,13,24") (line (textOf "Q_SRSTOP,1,0")
+    (line (textOf "NID_PACKET,8,137") (line way (line (textOf "L_PACKET,13,24") (line (textOf "Q_SRSTOP,1,0") (textOf "END,8,255"))))))))
 
 -- a packet for both ways after one for one way, and a wrong name: the pair wins; without it the name; one for each way
-pairs : answer (sheetWith (textOf "Q_LINK,1,1") (textOf "M_VERSION,7,16") (dangers (textOf "Q_DIR,2,2")))
-    ∷ answer (sheetWith (textOf "Q_LINK,1,1") (textOf "M_VERSION,7,16") (dangers (textOf "Q_DIR,2,0")))
-    ∷ answer (sheetWith (textOf "Q_UPDOWN,1,1") (textOf "M_VERSION,7,16") (dangers (textOf "Q_DIR,2,0")))
+pairs : answer (sheetWith (textOf "Q_LINK,1,1") (textOf "M_VERSION,7,16") (stops (textOf "Q_DIR,2,2")))
+    ∷ answer (sheetWith (textOf "Q_LINK,1,1") (textOf "M_VERSION,7,16") (stops (textOf "Q_DIR,2,0")))
+    ∷ answer (sheetWith (textOf "Q_UPDOWN,1,1") (textOf "M_VERSION,7,16") (stops (textOf "Q_DIR,2,0")))
     ∷ []
     ≡ reply.Refused (record { kind = Repeated; place = 82 }) ∷ reply.Row 1 ∷ reply.Done 106 ∷ []
 unfolding answer

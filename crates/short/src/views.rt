@@ -1,9 +1,7 @@
 // How a field counts in what a telegram says.
 ghost use mathlib.Core.Path.{_≡_};
-ghost use mathlib.Core.List.{List};
 ghost use Prim.Native.Nat.{ℕ};
 ghost use Rattle.format.specs.Normal.{viewOf};
-ghost use Rattle.format.specs.Telegrams.{Entry};
 ghost use Rattle.states.specs.Machine.{senseOf};
 ghost use Rattle.states.specs.Normaliser.{viewIs};
 use states::View;
@@ -13,7 +11,7 @@ use states::codes::TEXT;
 
 // How a field with the code c counts with the value v. A text length of 32767 is unlimited, at every scale.
 pub fn counts(c: u32, v: u64) -> View
-    ensures { λ r. ⌜ ((a b : ℕ) (es : List Entry) → viewOf (senseOf c a b) v es ≡ viewIs r) ⌝ }
+    ensures { λ r. ⌜ ((a b : ℕ) → viewOf (senseOf c a b) v ≡ viewIs r) ⌝ }
 {
     if SCALE <= c {
         return View::Scales;

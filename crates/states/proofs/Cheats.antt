@@ -25,12 +25,12 @@ unfoldable computed : List ℕ → ℕ → Result
 unfolding checked read drive begun fromBits bitsOf digits valueOf step next find etcs ctcs header times _⧺_ broken misdirected noted settled onward closes radioFrom spotOf spotAt placeFrom fieldPlace collidesBy among clash
 computed s n = checked paper s n
 
--- document 01's case 1, of 58 bits, and the same with NID_BG 3008
+-- a header and the end mark, 58 bits, with NID_BG 4100 and with 4101
 abbrev one : List ℕ
-one = 0x90 ∷ 0x02 ∷ 0x7F ∷ 0x81 ∷ 0x25 ∷ 0xDF ∷ 0xFF ∷ 0xC0 ∷ []
+one = 0x90 ∷ 0x14 ∷ 0x0F ∷ 0x02 ∷ 0xA8 ∷ 0x02 ∷ 0x3F ∷ 0xC0 ∷ []
 
 abbrev another : List ℕ
-another = 0x90 ∷ 0x02 ∷ 0x7F ∷ 0x81 ∷ 0x25 ∷ 0xE0 ∷ 0x7F ∷ 0xC0 ∷ []
+another = 0x90 ∷ 0x14 ∷ 0x0F ∷ 0x02 ∷ 0xA8 ∷ 0x02 ∷ 0xBF ∷ 0xC0 ∷ []
 
 one-accepted : answerOf (checked paper one 58) ≡ Accepted 11
 unfolding computed valuesIn
@@ -58,7 +58,7 @@ unfolding computed readInto valuesIn
 stores-the-same vs h =
     let a = h one 58 11 lent (valuesOver (checked paper one 58) lent) (record { answers = refl; contents = refl }) in
     let b = h another 58 11 lent (valuesOver (checked paper another 58) lent) (record { answers = refl; contents = refl }) in
-    let z : _≡_ {A = ℕ} 3007 3008 = ap (λ (l : List ℕ). getD l 8 0) (a ∙ sym b) in
+    let z : _≡_ {A = ℕ} 4100 4101 = ap (λ (l : List ℕ). getD l 8 0) (a ∙ sym b) in
     omega arith
 
 -- ---- one that reads the first packet and steps over the rest by L_PACKET
@@ -84,7 +84,7 @@ skims bs =
 
 -- ETCS-132 as it should be; ETCS-254 with L_PACKET 31 and 8 bits that no table has; the end mark
 abbrev unread : List ℕ
-unread = 0x90 ∷ 0x02 ∷ 0x7F ∷ 0x81 ∷ 0x25 ∷ 0xDF ∷ 0xE1 ∷ 0x10 ∷ 0x0C ∷ 0x3F ∷ 0xA0 ∷ 0x0F ∷ 0xD2 ∷ 0xFF ∷ 0x80 ∷ []
+unread = 0x90 ∷ 0x14 ∷ 0x0F ∷ 0x02 ∷ 0xA8 ∷ 0x02 ∷ 0x21 ∷ 0x10 ∷ 0x0C ∷ 0x3F ∷ 0xA0 ∷ 0x0F ∷ 0xD2 ∷ 0xFF ∷ 0x80 ∷ []
 
 unread-skimmed : skims (take 113 (bitsOf unread)) ≡ true
 unfolding computed skims steps

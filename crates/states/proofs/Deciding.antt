@@ -14,7 +14,8 @@ use Rattle.distance.specs.Distance.{numberOf}
 use Rattle.distance.specs.declared.Scale.{Scale}
 use Rattle.format.specs.Fields.{NID-PACKET, END}
 use Rattle.format.specs.Fields.Sense.{textLength}
-use Rattle.format.specs.Normal.{View, viewOf, view, decimetres, metres, metric}
+use Rattle.distance.specs.Steps.{decimetres}
+use Rattle.format.specs.Normal.{View, viewOf, view, metres, metric}
 use Rattle.format.specs.Normal.View.{kept, scales, measures}
 use Rattle.format.specs.Packets.{Items}
 use Rattle.format.specs.Packets.Items.{end, nest, send, sendIf, sendEither, sendTimes}
@@ -41,9 +42,9 @@ use Rattle.states.specs.Normaliser as normaliser
 use Rattle.states.specs.declared.View as views
 
 -- how a field counts says what a look at it finds
-pub looks : (k v : ℕ) {c : views.View} → Viewed k v c → (d : views.View) → c ≡ d → (es : List Entry) (b : Bool)
-    → normaliser.lookOf (viewIs d) b ≡ normaliser.lookOf (viewOf (fieldAt k .sense) v es) b
-looks k v h d e es b = sym (ap (λ x. normaliser.lookOf x b) (h es ∙ ap viewIs e))
+pub looks : (k v : ℕ) {c : views.View} → Viewed k v c → (d : views.View) → c ≡ d → (b : Bool)
+    → normaliser.lookOf (viewIs d) b ≡ normaliser.lookOf (viewOf (fieldAt k .sense) v) b
+looks k v h d e b = sym (ap (λ x. normaliser.lookOf x b) (h ∙ ap viewIs e))
 
 -- a text length is one by what is due
 named-text : (t : Items) (v : ℕ) → named t v .sense ≡ textLength → due t .sense ≡ textLength
@@ -79,9 +80,9 @@ module _ {t : Todo} {at : ℕ} {left : List Entry} (o : Onward t at left) {w : �
   metric-front : metric (numberOf q) left ≡ metric (numberOf q) (firstDue o ∷ es₀)
   metric-front = ap (metric (numberOf q)) (held (o .run) .front)
 
-  metres-is : view (firstDue o) es₀ ≡ measures → metres (firstDue o .field) (decimetres (numberOf q) v₀) es₀ ≡ inMetres q v₀ w
+  metres-is : view (firstDue o) ≡ measures → metres (firstDue o .field) (decimetres (numberOf q) v₀) ≡ inMetres q v₀ w
   metres-is h =
-      metres-tests (firstDue o .field) (numberOf q) v₀ es₀ (scale-two q) text-small h
+      metres-tests (firstDue o .field) (numberOf q) v₀ (scale-two q) text-small h
       ∙ ap (λ k. inMetres q v₀ k) (width-named (o .state .todo) v₀ ∙ ap (λ f. f .width) due-is ∙ sym ew)
 
   -- what a look at the first field decides
@@ -94,7 +95,7 @@ module _ {t : Todo} {at : ℕ} {left : List Entry} (o : Onward t at left) {w : �
   by-metres true h = h
   by-metres false h = h
 
-  by-view : (k : View) → view (firstDue o) es₀ ≡ k → Decides (normaliser.lookOf k (inMetres q v₀ w))
+  by-view : (k : View) → view (firstDue o) ≡ k → Decides (normaliser.lookOf k (inMetres q v₀ w))
   by-view kept h = metric-front ∙ metric-kept (firstDue o) es₀ (numberOf q) h
   by-view scales h = metric-front ∙ metric-scales (firstDue o) es₀ (numberOf q) h
   by-view measures h =
@@ -105,8 +106,8 @@ module _ {t : Todo} {at : ℕ} {left : List Entry} (o : Onward t at left) {w : �
     decides : Decides r
     decides =
         subst Decides
-        (sym (l es₀ ∙ ap₂ (λ k b. normaliser.lookOf k b) (ap (λ z. viewOf (fieldAt (t .node) .sense) z es₀) ev ∙ sym (view-due o)) (ap (λ z. inMetres q z w) ev)))
-        (by-view (view (firstDue o) es₀) refl)
+        (sym (l ∙ ap₂ (λ k b. normaliser.lookOf k b) (ap (λ z. viewOf (fieldAt (t .node) .sense) z) ev ∙ sym (view-due o)) (ap (λ z. inMetres q z w) ev)))
+        (by-view (view (firstDue o)) refl)
 
     pub look-passes : r ≡ Passes → metric (numberOf q) left ≡ metric (numberOf q) es₀
     look-passes e = subst Decides e decides

@@ -17,7 +17,6 @@ use Rattle.format.specs.Packets.{Items}
 use Rattle.format.specs.Packets.Items.{end, nest, send, sendIf, sendEither, sendTimes}
 use Rattle.format.specs.Rules.{named, due}
 use Rattle.format.specs.Table.{fieldAt, codeOf, lowOf, highOf}
-use Rattle.format.specs.Telegrams.{Entry}
 use Rattle.format.proofs.Rows.{distance-narrow, text-width}
 use Rattle.distance.specs.Distance.{numberOf, scaledBy, inDecimetres, inSteps, fitting}
 use Rattle.distance.specs.declared.Scale.{Scale}
@@ -37,29 +36,29 @@ past-end [] c h = refl
 past-end (k ∷ ks) zero h = absurd (not-suc-le-zero h)
 past-end (k ∷ ks) (suc c) h = past-end ks c (le-of-suc-le-suc h)
 
-module _ (a b v : ℕ) (es : List Entry) where
+module _ (a b v : ℕ) where
   -- from code 11 on it is a scale
-  pub view-scale : (c : ℕ) → 11 ≤ c → viewOf (senseOf c a b) v es ≡ scales
+  pub view-scale : (c : ℕ) → 11 ≤ c → viewOf (senseOf c a b) v ≡ scales
   unfolding senseOf
-  view-scale c h = ap (λ k. viewOf k v es) (past-end (senses a b) c h)
+  view-scale c h = ap (λ k. viewOf k v) (past-end (senses a b) c h)
 
   -- code 1 is a distance
-  pub view-distance : (c : ℕ) → c ≡ 1 → viewOf (senseOf c a b) v es ≡ measures
+  pub view-distance : (c : ℕ) → c ≡ 1 → viewOf (senseOf c a b) v ≡ measures
   unfolding senseOf
   view-distance c e = rw e
 
   -- code 2 is a text length, which is a distance unless it is unlimited
-  pub view-limited : (c : ℕ) → c ≡ 2 → (v ≡ 32767 → ⊥) → viewOf (senseOf c a b) v es ≡ measures
+  pub view-limited : (c : ℕ) → c ≡ 2 → (v ≡ 32767 → ⊥) → viewOf (senseOf c a b) v ≡ measures
   unfolding senseOf
   view-limited c e n = rw e (rw (ne-eqb v 32767 n))
 
   -- and is sent as it is if it is unlimited
-  pub view-unlimited : (c : ℕ) → c ≡ 2 → v ≡ 32767 → viewOf (senseOf c a b) v es ≡ kept
+  pub view-unlimited : (c : ℕ) → c ≡ 2 → v ≡ 32767 → viewOf (senseOf c a b) v ≡ kept
   unfolding senseOf
   view-unlimited c e h = rw e (rw (eq-eqb v 32767 h))
 
   -- any other code is sent as it is
-  pub view-plain : (c : ℕ) → c < 11 → (c ≡ 1 → ⊥) → (c ≡ 2 → ⊥) → viewOf (senseOf c a b) v es ≡ kept
+  pub view-plain : (c : ℕ) → c < 11 → (c ≡ 1 → ⊥) → (c ≡ 2 → ⊥) → viewOf (senseOf c a b) v ≡ kept
   unfolding senseOf
   view-plain zero h n m = refl
   view-plain (suc zero) h n m = absurd (n refl)
@@ -76,48 +75,48 @@ module _ (a b v : ℕ) (es : List Entry) where
 
 -- a field counts as its code does
 pub view-coded : (k v c : ℕ) (r : View) → c ≡ codeOf (fieldAt k .sense)
-    → ((a b : ℕ) (es : List Entry) → viewOf (senseOf c a b) v es ≡ viewIs r) → Viewed k v r
+    → ((a b : ℕ) → viewOf (senseOf c a b) v ≡ viewIs r) → Viewed k v r
 view-coded k v c r e h =
-    λ es. let f = fieldAt k in
-    ap (λ s. viewOf s v es) (sense-is f ∙ ap (λ n. senseOf n (lowOf f) (highOf f)) (sym e)) ∙ h (lowOf f) (highOf f) es
+    let f = fieldAt k in
+    ap (λ s. viewOf s v) (sense-is f ∙ ap (λ n. senseOf n (lowOf f) (highOf f)) (sym e)) ∙ h (lowOf f) (highOf f)
 
 -- a sense that is no scale, no distance and no text length is sent as it is
-pub view-else : (k : Sense) (v : ℕ) (es : List Entry) → (codeOf k ≡ 11 → ⊥) → (codeOf k ≡ 1 → ⊥) → (codeOf k ≡ 2 → ⊥) → viewOf k v es ≡ kept
-view-else (plain r) v es a b c = refl
-view-else scale v es a b c = absurd (a refl)
-view-else distance v es a b c = absurd (b refl)
-view-else textLength v es a b c = absurd (c refl)
+pub view-else : (k : Sense) (v : ℕ) → (codeOf k ≡ 11 → ⊥) → (codeOf k ≡ 1 → ⊥) → (codeOf k ≡ 2 → ⊥) → viewOf k v ≡ kept
+view-else (plain r) v a b c = refl
+view-else scale v a b c = absurd (a refl)
+view-else distance v a b c = absurd (b refl)
+view-else textLength v a b c = absurd (c refl)
 
 -- the name under which a value is sent counts as what is due
-pub named-view : (t : Items) (v : ℕ) (es : List Entry) → viewOf (named t v .sense) v es ≡ viewOf (due t .sense) v es
-named-view end v es = by-test (eqb v 255)
+pub named-view : (t : Items) (v : ℕ) → viewOf (named t v .sense) v ≡ viewOf (due t .sense) v
+named-view end v = by-test (eqb v 255)
   where
-    by-test : (b : Bool) → viewOf (cond b END NID-PACKET .sense) v es ≡ kept
+    by-test : (b : Bool) → viewOf (cond b END NID-PACKET .sense) v ≡ kept
     by-test true = refl
     by-test false = refl
-named-view nest v es = refl
-named-view (send f r) v es = refl
-named-view (sendIf c f r) v es = refl
-named-view (sendEither c a b) v es = refl
-named-view (sendTimes c g r) v es = refl
+named-view nest v = refl
+named-view (send f r) v = refl
+named-view (sendIf c f r) v = refl
+named-view (sendEither c a b) v = refl
+named-view (sendTimes c g r) v = refl
 
 -- ---- the widths of distances
 
 -- what counts as a distance has code 1 or 2
-measures-code : (k : Sense) (v : ℕ) (es : List Entry) → viewOf k v es ≡ measures → (0 < codeOf k) × (codeOf k < 3)
-measures-code (plain r) v es h = let z : _≡_ {A = ℕ} 0 1 = cc in absurd (omega arith)
-measures-code scale v es h = let z : _≡_ {A = ℕ} 0 1 = cc in absurd (omega arith)
-measures-code distance v es h = (omega arith, omega arith)
-measures-code textLength v es h = (omega arith, omega arith)
+measures-code : (k : Sense) (v : ℕ) → viewOf k v ≡ measures → (0 < codeOf k) × (codeOf k < 3)
+measures-code (plain r) v h = let z : _≡_ {A = ℕ} 0 1 = cc in absurd (omega arith)
+measures-code scale v h = let z : _≡_ {A = ℕ} 0 1 = cc in absurd (omega arith)
+measures-code distance v h = (omega arith, omega arith)
+measures-code textLength v h = (omega arith, omega arith)
 
 -- a distance has at most 20 bits
-pub measures-narrow : (k v : ℕ) (es : List Entry) → k < 213 → viewOf (fieldAt k .sense) v es ≡ measures → fieldAt k .width ≤ 20
-measures-narrow k v es l h = let c = measures-code (fieldAt k .sense) v es h in distance-narrow k l (c .0) (c .1)
+pub measures-narrow : (k v : ℕ) → k < 213 → viewOf (fieldAt k .sense) v ≡ measures → fieldAt k .width ≤ 20
+measures-narrow k v l h = let c = measures-code (fieldAt k .sense) v h in distance-narrow k l (c .0) (c .1)
 
 -- so that its value has
-pub distance-small : (k v w : ℕ) → k < 213 → w ≡ fieldAt k .width → v < 2 ^ w → viewOf (fieldAt k .sense) v [] ≡ measures → v < 1048576
+pub distance-small : (k v w : ℕ) → k < 213 → w ≡ fieldAt k .width → v < 2 ^ w → viewOf (fieldAt k .sense) v ≡ measures → v < 1048576
 distance-small k v w l e h m =
-    let n : w ≤ 20 = rw e (measures-narrow k v [] l m) in
+    let n : w ≤ 20 = rw e (measures-narrow k v l m) in
     let p : 2 ^ w ≤ 2 ^ 20 = pow-mono n in
     omega arith
 

@@ -20,7 +20,6 @@ use Rattle.laws.proofs.Sources.{Source, width-named}
 use Rattle.laws.proofs.Points.{Sends}
 use Rattle.laws.proofs.Points.Sends.{nothing, one-more}
 use Rattle.laws.proofs.Pointed.{one-front, sends-at}
-use Rattle.laws.proofs.Steps.{over-mark}
 use Rattle.laws.proofs.Tile.{bits-more, values-more}
 use Rattle.laws.proofs.Turns.{pushes, pushes-ended, pushes-stopped, pushes-one, one-mark, one-broken, one-lacking, one-field-bounds}
 use Rattle.states.specs.Machine.{todoOf, contextOf, view, nextOf, earlierAfter, Sound, Beginning}
@@ -55,14 +54,14 @@ module _ (source : rules.State → List ℕ → Taken) (part : Entry → List �
   -- ---- one turn of the driver, its bound being what is left
 
   drive-lacking : (q : rules.State) (xs : List ℕ) (k : Kind) → source q xs ≡ lacks k
-      → drive paper source (length xs) q xs ≡ stopped (refusal paper k q 0)
+      → drive paper source (length xs) q xs ≡ stopped (refusal paper k q)
   unfolding drive
   drive-lacking q [] k e =
-      let z : Ended ≡ k = cc (law .none q) in ap (λ (x : Kind). stopped (refusal paper x q 0)) z
+      let z : Ended ≡ k = cc (law .none q) in ap (λ (x : Kind). stopped (refusal paper x q)) z
   drive-lacking q (x ∷ xs) k e = one-lacking paper source (length xs) q (x ∷ xs) k e
 
   drive-broken : (q : rules.State) (xs ys : List ℕ) (v : ℕ) (k : Kind) → source q xs ≡ got v ys → step paper q v ≡ breaks k
-      → drive paper source (length xs) q xs ≡ stopped (refusal paper k q v)
+      → drive paper source (length xs) q xs ≡ stopped (refusal paper k q)
   drive-broken q [] ys v k e b = let n = law .none q in let z : _≡_ {A = ℕ} 0 1 = cc in absurd (omega arith)
   drive-broken q (x ∷ xs) ys v k e b = one-broken paper source (length xs) q (x ∷ xs) v ys k e b
 
@@ -115,28 +114,28 @@ module _ (source : rules.State → List ℕ → Taken) (part : Entry → List �
       due-is = sym (due-right (st .todo) (i .sound .tidy))
 
       -- where a refusal is found at the field that is due
-      pub placed : (k : Kind) (v : ℕ) {end : ℕ} → end ≡ st .at + fieldAt (st .todo .node) .width → (l : List Earlier)
-          → placeFrom k (st .at) end (contextOf [] st) ≡ fieldPlace k (view l st) v
+      pub placed : (k : Kind) {end : ℕ} → end ≡ st .at + fieldAt (st .todo .node) .width → (l : List Earlier)
+          → placeFrom k (st .at) end (contextOf [] st) ≡ fieldPlace k (view l st)
       unfolding fieldPlace
-      placed k v {end} e l =
+      placed k {end} e l =
           let p : past (view l st) ≡ end = rw due-is (sym e) in
           rw p (same-place k st end l)
 
       ends : (d : Driven) → drive paper source (length xs) here xs ≡ d → result ≡ whole paper (pushes (i .entries) d)
       ends d e = ap (whole paper) (i .goes ∙ ap (pushes (i .entries)) e)
 
-      stops : (k : Kind) (v place : ℕ) → ((l : List Earlier) → place ≡ fieldPlace k (view l st) v)
-          → drive paper source (length xs) here xs ≡ stopped (refusal paper k here v)
+      stops : (k : Kind) (place : ℕ) → ((l : List Earlier) → place ≡ fieldPlace k (view l st))
+          → drive paper source (length xs) here xs ≡ stopped (refusal paper k here)
           → result ≡ refused (record { kind = k; place = place })
-      stops k v place pl e =
-          ends (stopped (refusal paper k here v)) e
-          ∙ rw (pushes-stopped (i .entries) (refusal paper k here v), pl (i .earlier))
+      stops k place pl e =
+          ends (stopped (refusal paper k here)) e
+          ∙ rw (pushes-stopped (i .entries) (refusal paper k here), pl (i .earlier))
 
       -- ---- where the loop ends
 
-      pub refused-lacking : {k : Kind} → source here xs ≡ lacks k → {place : ℕ} → ((l : List Earlier) → place ≡ fieldPlace k (view l st) 0)
+      pub refused-lacking : {k : Kind} → source here xs ≡ lacks k → {place : ℕ} → ((l : List Earlier) → place ≡ fieldPlace k (view l st))
           → result ≡ refused (record { kind = k; place = place })
-      refused-lacking {k} e {place} pl = stops k 0 place pl (drive-lacking here xs k e)
+      refused-lacking {k} e {place} pl = stops k place pl (drive-lacking here xs k e)
 
       module _ {v : ℕ} {ys : List ℕ} (e : source here xs ≡ got v ys) {out : Outcome} (o : Passed (i .earlier) st v out) where
         entry-width : entry here v .field .width ≡ fieldAt (st .todo .node) .width
@@ -145,10 +144,10 @@ module _ (source : rules.State → List ℕ → Taken) (part : Entry → List �
         step-is : step paper here v ≡ nextOf (earlierAfter (i .earlier) st v) out
         step-is = o .right
 
-        pub refused-broken : {k : Kind} → out ≡ Breaks k → {place : ℕ} → ((l : List Earlier) → place ≡ fieldPlace k (view l st) v)
+        pub refused-broken : {k : Kind} → out ≡ Breaks k → {place : ℕ} → ((l : List Earlier) → place ≡ fieldPlace k (view l st))
             → result ≡ refused (record { kind = k; place = place })
         refused-broken {k} b {place} pl =
-            stops k v place pl (drive-broken here xs ys v k e (step-is ∙ ap (nextOf (earlierAfter (i .earlier) st v)) b))
+            stops k place pl (drive-broken here xs ys v k e (step-is ∙ ap (nextOf (earlierAfter (i .earlier) st v)) b))
 
         over-is : out ≡ Over → step paper here v ≡ over
         over-is b = step-is ∙ ap (nextOf (earlierAfter (i .earlier) st v)) b
@@ -168,15 +167,13 @@ module _ (source : rules.State → List ℕ → Taken) (part : Entry → List �
         mark-sized = bits-more (i .entries) (entry here v) ∙ rw (← (sends-at (i .sends)), entry-width)
 
         trailing : (zs : List ℕ) → 0 < length zs
-            → whole paper (ended (i .entries ++ (entry here v ∷ [])) here zs) ≡ refused (refusal paper Trailing here 255)
+            → whole paper (ended (i .entries ++ (entry here v ∷ [])) here zs) ≡ refused (refusal paper Trailing here)
         trailing [] h = absurd (omega arith)
         trailing (z ∷ zs) h = refl
 
-        pub refused-trailing : out ≡ Over → 0 < length ys → {place : ℕ} → ((l : List Earlier) → place ≡ fieldPlace Trailing (view l st) v)
+        pub refused-trailing : out ≡ Over → 0 < length ys → {place : ℕ} → ((l : List Earlier) → place ≡ fieldPlace Trailing (view l st))
             → result ≡ refused (record { kind = Trailing; place = place })
-        refused-trailing b h {place} pl =
-            let mark : v ≡ 255 = over-mark paper here v (over-is b) .1 in
-            marked b ∙ trailing ys h ∙ rw (pl (i .earlier), mark)
+        refused-trailing b h {place} pl = marked b ∙ trailing ys h ∙ rw (pl (i .earlier))
 
         -- ---- where it goes on
 

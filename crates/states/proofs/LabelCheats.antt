@@ -24,7 +24,7 @@ unfoldable computed : List ℕ → Result
 unfolding labelInto write drive begun fromValues digits valueOf step next find etcs ctcs header times _⧺_ broken misdirected noted settled onward closes radioFrom spotOf spotAt placeFrom fieldPlace collidesBy among clash
 computed vs = labelInto paper vs (length lent)
 
--- document 01's case 1 is the header and the end mark
+-- a header and the end mark
 one-labelled : numbersOver (labelInto paper one 830) lent ≡ 0 ∷ 1 ∷ 2 ∷ 3 ∷ 4 ∷ 5 ∷ 6 ∷ 7 ∷ 8 ∷ 9 ∷ 71 ∷ drop 11 lent
 unfolding computed numbersIn
 one-labelled = refl

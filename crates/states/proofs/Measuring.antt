@@ -137,7 +137,7 @@ module _ {vs rows : List ℕ} {st : State} {i : ℕ} (m : Measures vs rows st i)
           pub ends-broken : {k : Kind} → out ≡ Breaks k
               → write paper vs ≡ refused (record { kind = k; place = placeFrom k (st .at) (st .at + w) (contextOf [] st) })
           unfolding write
-          ends-broken b = refused-broken fromValues valuesIn Listed from-values vs (m .drives) has o b (placed fromValues valuesIn Listed from-values vs (m .drives) _ v end-is)
+          ends-broken b = refused-broken fromValues valuesIn Listed from-values vs (m .drives) has o b (placed fromValues valuesIn Listed from-values vs (m .drives) _ end-is)
 
           pub ends-well : out ≡ Over → i + 1 ≡ length vs → Accepted (st .at + w) ≡ sizeOf (write paper vs)
           unfolding write
@@ -150,7 +150,7 @@ module _ {vs rows : List ℕ} {st : State} {i : ℕ} (m : Measures vs rows st i)
               → write paper vs ≡ refused (record { kind = Trailing; place = placeFrom Trailing (st .at) (st .at + w) (contextOf [] st) })
           unfolding write
           ends-trailing b z =
-              refused-trailing fromValues valuesIn Listed from-values vs (m .drives) has o b (rw length-drop (omega arith)) (placed fromValues valuesIn Listed from-values vs (m .drives) Trailing v end-is)
+              refused-trailing fromValues valuesIn Listed from-values vs (m .drives) has o b (rw length-drop (omega arith)) (placed fromValues valuesIn Listed from-values vs (m .drives) Trailing end-is)
 
           pub measures-on : {after : State} → out ≡ Go after → Measures vs rows after (i + 1)
           measures-on g = record {

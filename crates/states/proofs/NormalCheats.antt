@@ -36,19 +36,18 @@ unfoldable computed : List ℕ → ℕ → Result
 unfolding normaliseInto checked read drive begun fromBits bitsOf digits valueOf step next find etcs ctcs header times _⧺_ broken misdirected noted settled onward closes radioFrom spotOf spotAt placeFrom fieldPlace collidesBy among clash metric normalUnder
 computed s n = normaliseInto paper s n (length lent)
 
--- document 01's case 8 as telegrams of 137 bits, with the header of case 1: CTCS-3 at 10 m, 50 and 400; at 1 m, 500 and 4000; and at
--- 10 cm, 200 and 1005. They differ from Q_SCALE on.
+-- telegrams of 137 bits with CTCS-3: at 10 m, 50 and 30; at 1 m, 500 and 300; and at 10 cm, 250 and 1015. They differ from Q_SCALE on.
 abbrev reversing : List ℕ → List ℕ
-reversing s = 0x90 ∷ 0x02 ∷ 0x7F ∷ 0x81 ∷ 0x25 ∷ 0xDF ∷ 0xCB ∷ 0x10 ∷ 0x27 ∷ 0x80 ∷ 0xD0 ∷ 0x1C ∷ s
+reversing s = 0x90 ∷ 0x14 ∷ 0x0F ∷ 0x02 ∷ 0xA8 ∷ 0x02 ∷ 0x0B ∷ 0x10 ∷ 0x27 ∷ 0x80 ∷ 0xD0 ∷ 0x1C ∷ s
 
 abbrev tens : List ℕ
-tens = reversing (0x40 ∷ 0x0C ∷ 0x80 ∷ 0xC8 ∷ 0x7F ∷ 0x80 ∷ [])
+tens = reversing (0x40 ∷ 0x0C ∷ 0x80 ∷ 0x0F ∷ 0x7F ∷ 0x80 ∷ [])
 
 abbrev metres : List ℕ
-metres = reversing (0x20 ∷ 0x7D ∷ 0x07 ∷ 0xD0 ∷ 0x7F ∷ 0x80 ∷ [])
+metres = reversing (0x20 ∷ 0x7D ∷ 0x00 ∷ 0x96 ∷ 0x7F ∷ 0x80 ∷ [])
 
 abbrev tenths : List ℕ
-tenths = reversing (0x00 ∷ 0x32 ∷ 0x01 ∷ 0xF6 ∷ 0xFF ∷ 0x80 ∷ [])
+tenths = reversing (0x00 ∷ 0x3E ∷ 0x81 ∷ 0xFB ∷ 0xFF ∷ 0x80 ∷ [])
 
 answer : sizeOf (normaliseInto paper tens 137 104) ≡ Accepted 137
 unfolding computed

@@ -48,7 +48,7 @@ tested-alike false k h = both-refused refl
 
 -- ---- so are the answers under two definitions of the place
 
-module _ (place other : Kind → State → ℕ → ℕ) (collides : Context → ℕ → Bool) where
+module _ (place other : Kind → State → ℕ) (collides : Context → ℕ → Bool) where
   abbrev pub p : Terms
   p = record { placeOf = place; collides = collides }
 

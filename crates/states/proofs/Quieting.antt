@@ -28,8 +28,8 @@ use Rattle.states.proofs.Taking.{inside}
 use Rattle.states.proofs.Telling.{Retelling, tells-same-value}
 
 -- such a field counts as it is sent
-unread-kept : (k v : ℕ) (es : List Entry) → Unread true k → viewOf (fieldAt k .sense) v es ≡ kept
-unread-kept k v es q = view-else (fieldAt k .sense) v es (q .0) (q .1) (q .2)
+unread-kept : (k v : ℕ) → Unread true k → viewOf (fieldAt k .sense) v ≡ kept
+unread-kept k v q = view-else (fieldAt k .sense) v (q .0) (q .1) (q .2)
 
 module _ {s : List ℕ} {n : ℕ} {t : Todo} {at : ℕ} {left : List Entry} (a : Along s n t at left) where
   abbrev w : ℕ
@@ -48,10 +48,10 @@ module _ {s : List ℕ} {n : ℕ} {base out : List ℕ} {q r : Scale} where
   tells-drifted (field {u} {x} d i c h) first =
       let g = tells-drifted d first in
       tells-same-value g refl refl (whole (g .along)) (idle-ahead u (g .along .onward .tidy) i (v (g .along)) .0) refl
-      (tells-kept q r (u .node) (v (g .along)) _ (unread-kept (u .node) (v (g .along)) _ c)) refl
+      (tells-kept q r (u .node) (v (g .along)) _ (unread-kept (u .node) (v (g .along)) c)) refl
 
 looks : (q : Scale) (k v w : ℕ) → Unread true k → Looked q k v w Passes
-looks q k v w c = λ es. sym (ap (λ x. lookOf x (inMetres q v w)) (unread-kept k v es c))
+looks q k v w c = sym (ap (λ x. lookOf x (inMetres q v w)) (unread-kept k v c))
 
 module _ {s : List ℕ} {n : ℕ} {q : Scale} {first : List Entry} where
   pub deciding-drifted : {t u : Todo} {at x m : ℕ} → Drifted n true t at u x m → Deciding s n q t at first → Deciding s n q u x first

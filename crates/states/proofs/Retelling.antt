@@ -35,12 +35,12 @@ rescaled-already v es e = rw e (record { value = sym (one (metric 1 es)); from =
     one false = refl
 
 module _ (q r : Scale) (k v : ℕ) (es : List Entry) where
-  pub tells-kept : viewOf (fieldAt k .sense) v es ≡ kept → Tells q r k v es (record { value = v; from = q; to = r })
+  pub tells-kept : viewOf (fieldAt k .sense) v ≡ kept → Tells q r k v es (record { value = v; from = q; to = r })
   tells-kept h = record { value = rw h refl; from = rw h refl; to = rw h refl }
 
-  pub tells-scale : {x : Retold} → viewOf (fieldAt k .sense) v es ≡ scales → Rescaled v es x → Tells q r k v es x
+  pub tells-scale : {x : Retold} → viewOf (fieldAt k .sense) v ≡ scales → Rescaled v es x → Tells q r k v es x
   tells-scale h x = record { value = rw h (x .value); from = rw h (x .from); to = rw h (x .to) }
 
-  pub tells-distance : {u : ℕ} → viewOf (fieldAt k .sense) v es ≡ measures → u ≡ converted q r v
+  pub tells-distance : {u : ℕ} → viewOf (fieldAt k .sense) v ≡ measures → u ≡ converted q r v
       → Tells q r k v es (record { value = u; from = q; to = r })
   tells-distance h e = record { value = rw h e; from = rw h refl; to = rw h refl }

@@ -167,7 +167,7 @@ module _ {s : List ℕ} {n : ℕ} {rows : List ℕ} {st : State} {c : Cursor} {c
           → read paper bs ≡ refused (record { kind = k; place = placeFrom k (st .at) (next .at) (contextOf [] st) })
       unfolding read
       ends-broken b =
-          refused-broken fromBits bitsIn Sent from-bits bs (i .drives) has-field o b (placed fromBits bitsIn Sent from-bits bs (i .drives) _ v next-is)
+          refused-broken fromBits bitsIn Sent from-bits bs (i .drives) has-field o b (placed fromBits bitsIn Sent from-bits bs (i .drives) _ next-is)
 
       pub ends-well : out ≡ Over → next .at ≡ n → Accepted (count + 1) ≡ answerOf (read paper bs)
       unfolding read
@@ -182,7 +182,7 @@ module _ {s : List ℕ} {n : ℕ} {rows : List ℕ} {st : State} {c : Cursor} {c
       ends-trailing b z =
           let rest : 0 < length (drop (st .at + w) bs) =
           rw (length-drop, length-telegram s n (i .wide)) (omega (arith, is-field .past, is-field .within, i .here)) in
-          refused-trailing fromBits bitsIn Sent from-bits bs (i .drives) has-field o b rest (placed fromBits bitsIn Sent from-bits bs (i .drives) Trailing v next-is)
+          refused-trailing fromBits bitsIn Sent from-bits bs (i .drives) has-field o b rest (placed fromBits bitsIn Sent from-bits bs (i .drives) Trailing next-is)
 
       module _ {after : State} (g : out ≡ Go after) where
         at-is : after .at ≡ st .at + w

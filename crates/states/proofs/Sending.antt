@@ -2,7 +2,8 @@
 use mathlib.Core.Path.{_≡_, sym, ap, _∙_}
 use mathlib.Core.List.{List, [], _∷_}
 use Prim.Native.Nat.{ℕ, _-_}
-use Rattle.format.specs.Normal.{View, viewOf, view, choose, decimetres, steps, best, put, normalUnder}
+use Rattle.distance.specs.Steps.{decimetres, steps}
+use Rattle.format.specs.Normal.{View, viewOf, view, choose, best, put, normalUnder}
 use Rattle.format.specs.Rules.{due}
 use Rattle.format.specs.Table.{fieldAt}
 use Rattle.format.specs.Telegrams.{Entry, entry}
@@ -21,16 +22,16 @@ module _ {t : Todo} {at : ℕ} {left : List Entry} (o : Onward t at left) where
   firstDue = entry (o .state) (valueDue o)
 
   -- how it counts is how the field of the row does
-  pub view-due : view firstDue (restDue o) ≡ viewOf (fieldAt (t .node) .sense) (valueDue o) (restDue o)
+  pub view-due : view firstDue ≡ viewOf (fieldAt (t .node) .sense) (valueDue o)
   view-due =
-      named-view (o .state .todo) (valueDue o) (restDue o)
-      ∙ ap (λ f. viewOf (f .sense) (valueDue o) (restDue o)) (ap due (o .todo) ∙ sym (due-right t (o .tidy)))
+      named-view (o .state .todo) (valueDue o)
+      ∙ ap (λ f. viewOf (f .sense) (valueDue o)) (ap due (o .todo) ∙ sym (due-right t (o .tidy)))
 
 -- ---- told under the scales q and r
 
 module _ {t : Todo} {at : ℕ} {left : List Entry} (o : Onward t at left) (q r : ℕ) where
   abbrev k : View
-  k = view (firstDue o) (restDue o)
+  k = view (firstDue o)
 
   -- what is sent for it, and the scales after it
   abbrev pub sentFor : ℕ

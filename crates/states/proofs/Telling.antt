@@ -18,7 +18,8 @@ use Rattle.bits.proofs.Digits.{digits-valueOf-at}
 use Rattle.bits.proofs.Fields.{taken, below-fieldBits, length-fieldBits}
 use Rattle.distance.specs.Distance.{numberOf}
 use Rattle.distance.specs.declared.Scale.{Scale}
-use Rattle.format.specs.Normal.{View, viewOf, view, choose, decimetres, steps, best, normalUnder, normal}
+use Rattle.distance.specs.Steps.{decimetres, steps}
+use Rattle.format.specs.Normal.{View, viewOf, view, choose, best, normalUnder, normal}
 use Rattle.format.specs.Normal.View.{kept, scales, measures}
 use Rattle.format.specs.Rules.{paper, due}
 use Rattle.laws.proofs.Sources.{width-named}
@@ -151,14 +152,14 @@ module _ {s : List ℕ} {n : ℕ} {base out : List ℕ} {t : Todo} {at : ℕ} {q
       width-named (o .state .todo) v₀ ∙ ap (λ f. f .width) (ap due (o .todo) ∙ sym (due-right t (o .tidy)))
 
   -- a distance that can be told is converted to what tells it
-  converts : (k : View) → view (firstDue o) es₀ ≡ k
-      → chooseT k (Tells (numberOf q) (numberOf r) es₀) Unit (Told (numberOf q) (numberOf r) (firstDue o) es₀ × Tells (numberOf q) (numberOf r) es₀)
+  converts : (k : View) → view (firstDue o) ≡ k
+      → chooseT k (Tells (numberOf q) (numberOf r) es₀) Unit (Told (numberOf q) (numberOf r) (firstDue o) × Tells (numberOf q) (numberOf r) es₀)
       → choose k v₀ (best v₀ es₀) (converted q r v₀) ≡ choose k v₀ (best v₀ es₀) (steps (numberOf r) (decimetres (numberOf q) v₀))
   converts kept h x = refl
   converts scales h x = refl
   converts measures h x =
       let c = x .0 .count in
-      let narrow : fieldAt (t .node) .width ≤ 20 = measures-narrow (t .node) v₀ es₀ (o .tidy .inside) (sym (view-due o) ∙ h) in
+      let narrow : fieldAt (t .node) .width ≤ 20 = measures-narrow (t .node) v₀ (o .tidy .inside) (sym (view-due o) ∙ h) in
       let fits : c < 2 ^ fieldAt (t .node) .width = subst (λ k. c < 2 ^ k) first-width (x .0 .small) in
       let most : 2 ^ fieldAt (t .node) .width ≤ 2 ^ 20 = pow-mono narrow in
       converted-told q r v₀ c (omega arith) (x .0 .exact) ∙ sym (told-steps (x .0))
@@ -186,7 +187,7 @@ module _ {s : List ℕ} {n : ℕ} {base out : List ℕ} {t : Todo} {at : ℕ} {q
     sendable =
         record {
           small = subst (λ k. v < 2 ^ k) ew (rw due-value (small o ew));
-          known = λ es h. rw due-value (fair-front .0 .known (view-due o ∙ scale-still (fieldAt (t .node) .sense) v₀ v es es₀ h));
+          known = λ h. rw due-value (fair-front .0 .known (view-due o ∙ scale-still (fieldAt (t .node) .sense) v₀ v h));
         }
 
     inside-n : at + w ≤ n
@@ -208,8 +209,8 @@ module _ {s : List ℕ} {n : ℕ} {base out : List ℕ} {t : Todo} {at : ℕ} {q
 
     -- after the end mark the bytes are the normal form's
     module _ {x : Ahead} (a : Advanced t v x) (m : x ≡ Mark) where
-      mark-kept : view (firstDue o) es₀ ≡ kept
-      mark-kept = named-view (o .state .todo) v₀ es₀ ∙ ap (λ i. viewOf (due i .sense) v₀ es₀) (at-end o ew due-value a m)
+      mark-kept : view (firstDue o) ≡ kept
+      mark-kept = named-view (o .state .todo) v₀ ∙ ap (λ i. viewOf (due i .sense) v₀) (at-end o ew due-value a m)
 
       mark-value : v ≡ valueDue toldOn
       mark-value =
@@ -247,8 +248,8 @@ module _ {s : List ℕ} {n : ℕ} {base out : List ℕ} {t : Todo} {at : ℕ} {q
       along-then = along-next (g .along) ew er ed a m
 
       module _ {y : Retold} (h : normaliser.Tells q r (t .node) v es₀ y) where
-        due-view : viewOf (fieldAt (t .node) .sense) v es₀ ≡ view (firstDue o) es₀
-        due-view = ap (λ z. viewOf (fieldAt (t .node) .sense) z es₀) due-value ∙ sym (view-due o)
+        due-view : viewOf (fieldAt (t .node) .sense) v ≡ view (firstDue o)
+        due-view = ap (λ z. viewOf (fieldAt (t .node) .sense) z) due-value ∙ sym (view-due o)
 
         from-is : numberOf (y .from) ≡ fromNext o (numberOf q) (numberOf r)
         from-is = h .from ∙ ap₂ (λ k z. choose k (numberOf q) z (numberOf q)) due-view due-value
@@ -260,7 +261,7 @@ module _ {s : List ℕ} {n : ℕ} {base out : List ℕ} {t : Todo} {at : ℕ} {q
         sent-is =
             h .value
             ∙ ap₂ (λ k z. choose k z (best z es₀) (converted q r z)) due-view due-value
-            ∙ converts (view (firstDue o) es₀) refl tells-front
+            ∙ converts (view (firstDue o)) refl tells-front
             ∙ told-value o (numberOf q) (numberOf r) (g .tells)
 
         module _ {wrote : Bool} {after : List ℕ} (p : Put out at w (y .value) wrote after) where
@@ -274,7 +275,7 @@ module _ {s : List ℕ} {n : ℕ} {base out : List ℕ} {t : Todo} {at : ℕ} {q
                 along = along-then;
                 tells =
                     rw (from-is, to-is)
-                    (tells-next paper (numberOf q) (numberOf r) (o .state) v₀ es₀ (fair-front .1) (view (firstDue o) es₀) tells-front);
+                    (tells-next paper (numberOf q) (numberOf r) (o .state) v₀ es₀ (fair-front .1) (view (firstDue o)) tells-front);
                 laid =
                     rw (from-is, to-is, next-at (g .along) ew er ed)
                     (laid-on (g .laid) toldOn ew sent-is p (told-rest o (numberOf q) (numberOf r) (g .tells)));

@@ -24,12 +24,12 @@ unfoldable computed : List ℕ → Result
 unfolding writeInto write drive begun fromValues digits valueOf step next find etcs ctcs header times _⧺_ broken misdirected noted settled onward closes radioFrom spotOf spotAt placeFrom fieldPlace collidesBy among clash
 computed vs = writeInto paper vs (length lent)
 
--- document 01's case 1, of 58 bits, and its bytes
+-- a header and the end mark, and their bytes
 abbrev pub one : List ℕ
-one = 1 ∷ 16 ∷ 0 ∷ 0 ∷ 1 ∷ 0 ∷ 255 ∷ 9 ∷ 3007 ∷ 1 ∷ 255 ∷ []
+one = 1 ∷ 16 ∷ 0 ∷ 1 ∷ 2 ∷ 0 ∷ 30 ∷ 21 ∷ 4100 ∷ 0 ∷ 255 ∷ []
 
 abbrev bytes : List ℕ
-bytes = 0x90 ∷ 0x02 ∷ 0x7F ∷ 0x81 ∷ 0x25 ∷ 0xDF ∷ 0xFF ∷ 0xC0 ∷ []
+bytes = 0x90 ∷ 0x14 ∷ 0x0F ∷ 0x02 ∷ 0xA8 ∷ 0x02 ∷ 0x3F ∷ 0xC0 ∷ []
 
 one-answer : sizeOf (writeInto paper one 104) ≡ Accepted 58
 unfolding computed
@@ -41,7 +41,7 @@ one-written = refl
 
 -- the same without its end mark is refused
 abbrev pub unended : List ℕ
-unended = 1 ∷ 16 ∷ 0 ∷ 0 ∷ 1 ∷ 0 ∷ 255 ∷ 9 ∷ 3007 ∷ 1 ∷ []
+unended = 1 ∷ 16 ∷ 0 ∷ 1 ∷ 2 ∷ 0 ∷ 30 ∷ 21 ∷ 4100 ∷ 0 ∷ []
 
 unended-keeps : bytesOver (writeInto paper unended 104) lent ≡ lent
 unfolding computed

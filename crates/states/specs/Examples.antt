@@ -1,5 +1,5 @@
--- Worked looks back, and a header at once, of document 01's stop telegram: ETCS-44 with CTCS-5, ETCS-132 and ETCS-137 behind a header of 50 bits and ten values. Assumes
--- nothing.
+-- Worked looks back, and a header at once, of a telegram with ETCS-44 and CTCS-4 inside it, ETCS-137 and ETCS-132 behind a header of 50 bits and
+-- ten values. Assumes nothing.
 use mathlib.Core.Bool.{true, false}
 use mathlib.Core.List.{List, [], _∷_}
 use mathlib.Core.Path.{_≡_, refl}
@@ -16,26 +16,28 @@ use Rattle.states.specs.declared.Begun.the-variants.{To, Not}
 use Rattle.states.specs.declared.Level.the-variants.{Packet}
 use Rattle.states.specs.declared.Verdict.the-variants.{Fine, Broken}
 
-abbrev stopBytes : List ℕ
-stopBytes = 144 ∷ 2 ∷ 127 ∷ 129 ∷ 37 ∷ 223 ∷ 203 ∷ 16 ∷ 24 ∷ 1 ∷ 80 ∷ 12 ∷ 161 ∷ 16 ∷ 12 ∷ 34 ∷ 80 ∷ 12 ∷ 127 ∷ 192 ∷ []
+abbrev bytes : List ℕ
+bytes =
+    144 ∷ 20 ∷ 15 ∷ 2 ∷ 168 ∷ 2 ∷ 11 ∷ 16 ∷ 35 ∷ 129 ∷ 16 ∷ 24 ∷ 32 ∷ 22 ∷ 136 ∷ 68 ∷ 160 ∷ 24 ∷ 66 ∷ 0 ∷ 24 ∷ 255 ∷ 128 ∷ []
 
-abbrev stopValues : List ℕ
-stopValues = 1 ∷ 16 ∷ 0 ∷ 0 ∷ 1 ∷ 0 ∷ 255 ∷ 9 ∷ 3007 ∷ 1 ∷ 44 ∷ 1 ∷ 48 ∷ 5 ∷ 1 ∷ 25 ∷ 0 ∷ 132 ∷ 1 ∷ 24 ∷ 0 ∷ 137 ∷ 1 ∷ 24 ∷ 1 ∷ 255 ∷ []
+abbrev values : List ℕ
+values =
+    1 ∷ 16 ∷ 0 ∷ 1 ∷ 2 ∷ 0 ∷ 30 ∷ 21 ∷ 4100 ∷ 0 ∷ 44 ∷ 1 ∷ 71 ∷ 4 ∷ 1 ∷ 48 ∷ 1 ∷ 90 ∷ 16 ∷ 137 ∷ 1 ∷ 24 ∷ 0 ∷ 132 ∷ 0 ∷ 24 ∷ 1 ∷ 255 ∷ []
 
 abbrev earlier : ℕ → ℕ → Earlier
 earlier i d = record { id = i; dir = d }
 
--- before the end mark, at bit 146: all three, each found behind the one before; the CTCS packet inside the first is none
-hops-of-stop : packetsBefore stopBytes 146 ≡ earlier 44 1 ∷ earlier 132 1 ∷ earlier 137 1 ∷ []
+-- before the end mark, at bit 169: all three, each found behind the one before; the CTCS packet inside the first is none
+hops-to-the-end : packetsBefore bytes 169 ≡ earlier 44 1 ∷ earlier 137 1 ∷ earlier 132 0 ∷ []
 unfolding hopped takeAt bitsOf digits valueOf
-hops-of-stop = refl
+hops-to-the-end = refl
 
--- before ETCS-137, which begins at bit 122, the first two; before the first packet none
-hops-before-the-last : packetsBefore stopBytes 122 ≡ earlier 44 1 ∷ earlier 132 1 ∷ []
+-- before ETCS-132, which begins at bit 145, the first two; before the first packet none
+hops-before-the-last : packetsBefore bytes 145 ≡ earlier 44 1 ∷ earlier 137 1 ∷ []
 unfolding hopped takeAt bitsOf digits valueOf
 hops-before-the-last = refl
 
-hops-before-the-first : packetsBefore stopBytes 50 ≡ []
+hops-before-the-first : packetsBefore bytes 50 ≡ []
 unfolding hopped takeAt bitsOf digits valueOf
 hops-before-the-first = refl
 
@@ -44,26 +46,26 @@ hops-of-zeros : packetsBefore (0 ∷ 0 ∷ 0 ∷ 0 ∷ 0 ∷ 0 ∷ 0 ∷ 0 ∷ 0
 unfolding hopped takeAt bitsOf digits valueOf
 hops-of-zeros = refl
 
--- the same packets among the values: before the end mark, which is the value number 25, and before the Q_DIR of ETCS-137, number 22
-walk-of-stop : packetsAmong stopValues 25 ≡ earlier 44 1 ∷ earlier 132 1 ∷ earlier 137 1 ∷ []
+-- the same packets among the values: before the end mark, which is the value number 27, and before the Q_DIR of ETCS-132, number 24
+walk-to-the-end : packetsAmong values 27 ≡ earlier 44 1 ∷ earlier 137 1 ∷ earlier 132 0 ∷ []
 unfolding walked next find etcs ctcs times _⧺_
-walk-of-stop = refl
+walk-to-the-end = refl
 
-walk-before-the-last : packetsAmong stopValues 22 ≡ earlier 44 1 ∷ earlier 132 1 ∷ []
+walk-before-the-last : packetsAmong values 24 ≡ earlier 44 1 ∷ earlier 137 1 ∷ []
 unfolding walked next find etcs ctcs times _⧺_
 walk-before-the-last = refl
 
--- a second ETCS-132 collides with the first for its own way and for both ways; a second ETCS-44 with none
-stop-collides : (collidesAmong clash 132 1 (packetsBefore stopBytes 146) ≡ true) × (collidesAmong clash 132 2 (packetsBefore stopBytes 146) ≡ true)
+-- a second ETCS-137 collides with the first for its own way and for both ways; a second ETCS-44 with none
+second-collides : (collidesAmong clash 137 1 (packetsBefore bytes 169) ≡ true) × (collidesAmong clash 137 2 (packetsBefore bytes 169) ≡ true)
 unfolding hopped takeAt bitsOf digits valueOf among clash
-stop-collides = (refl, refl)
+second-collides = (refl, refl)
 
-stop-free : (collidesAmong clash 132 0 (packetsBefore stopBytes 146) ≡ false) × (collidesAmong clash 44 1 (packetsBefore stopBytes 146) ≡ false)
+second-free : (collidesAmong clash 137 0 (packetsBefore bytes 169) ≡ false) × (collidesAmong clash 44 1 (packetsBefore bytes 169) ≡ false)
 unfolding hopped takeAt bitsOf digits valueOf among clash
-stop-free = (refl, refl)
+second-free = (refl, refl)
 
 -- the state behind its header, at bit 50; none where 49 bits are there, or where the first three fields are other ones
-header-of-stop : frontOf stopBytes 154
+header-at-once : frontOf bytes 177
     ≡ To (record {
       at = 50;
       todo = record { node = 0; left = 0; outer = 0 };
@@ -74,12 +76,12 @@ header-of-stop : frontOf stopBytes 154
       long = 0;
       userstart = 0;
       userlong = 0;
-      pig = 0;
+      pig = 1;
     })
 unfolding takeAt bitsOf digits valueOf
-header-of-stop = refl
+header-at-once = refl
 
-no-header : (frontOf stopBytes 49 ≡ Not) × (frontOf (16 ∷ 2 ∷ 127 ∷ 129 ∷ 37 ∷ 223 ∷ 203 ∷ []) 56 ≡ Not)
+no-header : (frontOf bytes 49 ≡ Not) × (frontOf (16 ∷ 20 ∷ 15 ∷ 2 ∷ 168 ∷ 2 ∷ 11 ∷ []) 56 ≡ Not)
 unfolding takeAt bitsOf digits valueOf
 no-header = (refl, refl)
 

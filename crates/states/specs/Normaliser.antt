@@ -6,7 +6,8 @@ use Prim.Native.Nat.{ℕ, _*_, _%_, _^_, _<_, _≤_}
 use lib.Dec.{eqb, leb, ltb}
 use lib.ListN.{length, take}
 use Rattle.bits.specs.Bits.{bitsOf, bytesFor}
-use Rattle.format.specs.Normal.{viewOf, choose, decimetres, steps, best, normal}
+use Rattle.distance.specs.Steps.{decimetres, steps}
+use Rattle.format.specs.Normal.{viewOf, choose, best, normal}
 use Rattle.format.specs.Normal.View.{kept, scales, measures}
 use Rattle.format.specs.Refusals.{inNumbers}
 use Rattle.format.specs.Rules.{Terms, paper}
@@ -72,7 +73,7 @@ viewIs Scales = scales
 viewIs Measures = measures
 
 abbrev pub Viewed : ℕ → ℕ → View → Type 0
-Viewed k v r = (es : List Entry) → viewOf (fieldAt k .sense) v es ≡ viewIs r
+Viewed k v r = viewOf (fieldAt k .sense) v ≡ viewIs r
 
 -- v steps of the scale q in steps of the scale r; v itself where they are no whole number of these
 abbrev pub wholeOr : ℕ → distances.Told → ℕ
@@ -93,13 +94,13 @@ lookOf scales b = Ends
 lookOf measures b = cond b Passes Fails
 
 abbrev pub Looked : Scale → ℕ → ℕ → ℕ → Look → Type 0
-Looked q k v w r = (es : List Entry) → r ≡ lookOf (viewOf (fieldAt k .sense) v es) (inMetres q v w)
+Looked q k v w r = r ≡ lookOf (viewOf (fieldAt k .sense) v) (inMetres q v w)
 
 -- what is sent for v in row k, with the entries es behind it, and the scales after it
 pub record Tells (q r : Scale) (k v : ℕ) (es : List Entry) (x : Retold) : Type 0 where
-  pub value : x .value ≡ choose (viewOf (fieldAt k .sense) v es) v (best v es) (converted q r v)
-  pub from : numberOf (x .from) ≡ choose (viewOf (fieldAt k .sense) v es) (numberOf q) v (numberOf q)
-  pub to : numberOf (x .to) ≡ choose (viewOf (fieldAt k .sense) v es) (numberOf r) (best v es) (numberOf r)
+  pub value : x .value ≡ choose (viewOf (fieldAt k .sense) v) v (best v es) (converted q r v)
+  pub from : numberOf (x .from) ≡ choose (viewOf (fieldAt k .sense) v) (numberOf q) v (numberOf q)
+  pub to : numberOf (x .to) ≡ choose (viewOf (fieldAt k .sense) v) (numberOf r) (best v es) (numberOf r)
 
 -- the same at a scale
 pub record Rescaled (v : ℕ) (es : List Entry) (x : Retold) : Type 0 where
@@ -110,4 +111,4 @@ pub record Rescaled (v : ℕ) (es : List Entry) (x : Retold) : Type 0 where
 -- a value of an accepted telegram: it fits, and a scale is one of three
 pub record Sendable (k v : ℕ) : Type 0 where
   pub small : v < 2 ^ fieldAt k .width
-  pub known : (es : List Entry) → viewOf (fieldAt k .sense) v es ≡ scales → v ≤ 2
+  pub known : viewOf (fieldAt k .sense) v ≡ scales → v ≤ 2

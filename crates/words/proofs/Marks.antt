@@ -7,9 +7,9 @@ use native.Mathlib.Numerals.{add-one}
 use native.Mathlib.Omega.{arith}
 use borrow.Author.Tests.{eq-eqb, ne-eqb}
 use lib.Dec.{eqb}
-use lib.ListN.{length, drop, getD, length-drop, drop-of-length-le}
+use lib.ListN.{length, drop, getD, drop-of-length-le}
 use lib.Seq.{drop-cons}
-use Rattle.words.specs.Words.{upTo, wordEnd}
+use Rattle.words.specs.Words.{upTo}
 
 -- ---- the loop of `until`
 
@@ -48,7 +48,3 @@ up-within c (d ∷ text) = by (eqb d c) (up-within c text)
     by : (b : Bool) → upTo c text ≤ length text → cond b 0 (suc (upTo c text)) ≤ suc (length text)
     by true h = omega arith
     by false h = omega arith
-
--- a word that begins in a line ends in it, and not before it begins
-pub end-within : (line : List ℕ) (at : ℕ) → at ≤ length line → (at ≤ wordEnd line at) × (wordEnd line at ≤ length line)
-end-within line at h = (omega arith, omega (arith, up-within 32 (drop at line), length-drop at line))

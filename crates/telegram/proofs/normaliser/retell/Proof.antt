@@ -1,6 +1,5 @@
 -- `telegram::normaliser::retell` meets its contract: by how the field counts. Assumes nothing.
 use mathlib.Core.Path.{refl, _∙_, ap}
-use mathlib.Core.List.{[]}
 use borrow.Author.Needs.{needs}
 use Rattle.states.specs.Normaliser.{viewIs}
 use Rattle.states.proofs.Distances.{view-coded, distance-small}
@@ -23,7 +22,7 @@ enum-told-2 c = search needs
 rescale-requires : tie.Need-rescale-requires
 rescale-requires c κs =
     let v = view-coded (c .before .before .before .before .before .args .k) (c .before .before .before .before .before .args .v) _ (c .before .before .counts .result) (c .before .before .before .code .ensures) (c .before .before .counts .ensures) in
-    (c .before .before .before .before .before .pre .0 .table, c .before .before .before .before .before .pre .1 .known [] (v [] ∙ ap viewIs (c .enum-told2 .given .1)), c .before .before .before .before .before .pre .2)
+    (c .before .before .before .before .before .pre .0 .table, c .before .before .before .before .before .pre .1 .known (v ∙ ap viewIs (c .enum-told2 .given .1)), c .before .before .before .before .before .pre .2)
 
 enum-told-3 : tie.Need-enum-told-3
 enum-told-3 c = search needs
@@ -31,22 +30,22 @@ enum-told-3 c = search needs
 convert-requires : tie.Need-convert-requires
 convert-requires c κs =
     let v = view-coded (c .before .before .before .before .before .args .k) (c .before .before .before .before .before .args .v) _ (c .before .before .counts .result) (c .before .before .before .code .ensures) (c .before .before .counts .ensures) in
-    distance-small (c .before .before .before .before .before .args .k) (c .before .before .before .before .before .args .v) _ (c .before .before .before .before .before .pre .0 .inside) refl (c .before .before .before .before .before .pre .1 .small) (v [] ∙ ap viewIs (c .enum-told3 .given .1))
+    distance-small (c .before .before .before .before .before .args .k) (c .before .before .before .before .before .args .v) _ (c .before .before .before .before .before .pre .0 .inside) refl (c .before .before .before .before .before .pre .1 .small) (v ∙ ap viewIs (c .enum-told3 .given .1))
 
 returns : tie.Need-returns
 returns c =
     let v = view-coded (c .before .before .before .before .before .args .k) (c .before .before .before .before .before .args .v) _ (c .before .before .counts .result) (c .before .before .before .code .ensures) (c .before .before .counts .ensures) in
-    λ es a. tells-kept _ _ _ _ es (v es ∙ ap viewIs (c .enum-told .given .1))
+    λ es a. tells-kept _ _ _ _ es (v ∙ ap viewIs (c .enum-told .given .1))
 
 returns-2 : tie.Need-returns-2
 returns-2 c =
     let v = view-coded (c .before .before .before .before .before .before .args .k) (c .before .before .before .before .before .before .args .v) _ (c .before .before .before .counts .result) (c .before .before .before .before .code .ensures) (c .before .before .before .counts .ensures) in
-    λ es a. tells-scale _ _ _ _ es (v es ∙ ap viewIs (c .before .enum-told2 .given .1)) (c .rescale .ensures es a)
+    λ es a. tells-scale _ _ _ _ es (v ∙ ap viewIs (c .before .enum-told2 .given .1)) (c .rescale .ensures es a)
 
 returns-3 : tie.Need-returns-3
 returns-3 c =
     let v = view-coded (c .before .before .before .before .before .before .args .k) (c .before .before .before .before .before .before .args .v) _ (c .before .before .before .counts .result) (c .before .before .before .before .code .ensures) (c .before .before .before .counts .ensures) in
-    λ es a. tells-distance _ _ _ _ es (v es ∙ ap viewIs (c .before .enum-told3 .given .1)) (c .convert .ensures)
+    λ es a. tells-distance _ _ _ _ es (v ∙ ap viewIs (c .before .enum-told3 .given .1)) (c .convert .ensures)
 
 pub retell-spec : {M : Type 1} → statement M
 retell-spec =
