@@ -1,4 +1,5 @@
--- What waits then is one thing alone, and what is lost is one, where writes fail alike. Assumes nothing.
+-- What waits then is one thing alone, and what is lost is one, where writes fail alike. `line_buffer` promises a buffer that is long enough: a longer
+-- one is that too, and what stands in it is not read. Assumes nothing.
 use mathlib.Core.Path.{ap}
 use mathlib.Core.List.{List}
 use Prim.Native.Nat.{ℕ}

@@ -1,4 +1,5 @@
--- The promise of `from_line` is met by one answer alone, and by one final contents of what is lent. Assumes nothing.
+-- The promise of `from_line` is met by one answer alone, and by one final contents of what is lent. `line_buffer` promises a buffer that is long
+-- enough: a longer one is that too, and what stands in it is not read. Assumes nothing.
 use mathlib.Core.Path.{sym, ap, _∙_}
 use mathlib.Core.List.{List}
 use Prim.Native.Nat.{ℕ}
