@@ -10,11 +10,11 @@ use Rattle.again.proofs.reread
 pub rewritten-once : OneOutcome rewritten.ended rewritten.Reads.Post
 rewritten-once κs args r t u v p q = (
   answer-is r t (p .answers ∙ sym (q .answers)),
-  ap₂ (λ (run out : List ℕ). (run, out, u .2)) (p .values ∙ sym (q .values)) (p .telegram ∙ sym (q .telegram)),
+  ap₂ (λ (run out : List ℕ). (u .0, (u .1 .0, (run, (out, u .1 .1 .1 .1))))) (p .values ∙ sym (q .values)) (p .telegram ∙ sym (q .telegram)),
 )
 
 pub reread-once : OneOutcome reread.ended reread.Reads.Post
 reread-once κs args r t u v p q = (
   answer-is r t (p .answers ∙ sym (q .answers)),
-  ap₂ (λ (out run : List ℕ). (out, run, u .2)) (p .telegram ∙ sym (q .telegram)) (p .values ∙ sym (q .values)),
+  ap₂ (λ (out run : List ℕ). (u .0, (out, (run, u .1 .1 .1)))) (p .telegram ∙ sym (q .telegram)) (p .values ∙ sym (q .values)),
 )

@@ -11,11 +11,11 @@ use Rattle.normals.proofs.says_same
 pub renormalised-once : OneOutcome renormalised.ended renormalised.Reads.Post
 renormalised-once κs args r t u v p q = (
   answer-is r t (p .answers ∙ sym (q .answers)),
-  ap₂ (λ (x y : List ℕ). (x, y, u .2)) (p .once ∙ sym (q .once)) (p .twice ∙ sym (q .twice)),
+  ap₂ (λ (x y : List ℕ). (u .0, (u .1 .0, (x, (y, u .1 .1 .1 .1))))) (p .once ∙ sym (q .once)) (p .twice ∙ sym (q .twice)),
 )
 
 pub says-same-once : OneOutcome says_same.ended says_same.Reads.Post
 says-same-once κs args r t u v p q = (
   alike-is r t (p .answers ∙ sym (q .answers)),
-  ap₂ (λ (x y : List ℕ). (x, y, u .2)) (p .first ∙ sym (q .first)) (p .second ∙ sym (q .second)),
+  ap₂ (λ (x y : List ℕ). (u .0, (u .1 .0, (u .1 .1 .0, (u .1 .1 .1 .0, (x, (y, u .1 .1 .1 .1 .1 .1))))))) (p .first ∙ sym (q .first)) (p .second ∙ sym (q .second)),
 )

@@ -8,4 +8,4 @@ use Rattle.sheet_in.proofs.import
 
 pub import-once : OneOutcome import.ended import.Reads.Post
 import-once κs args r t u v p q =
-    (import-answer p ∙ sym (import-answer q), ap (λ (out : List ℕ). (out, u .1)) (p .contents ∙ sym (q .contents)))
+    (import-answer p ∙ sym (import-answer q), ap (λ (out : List ℕ). (u .0, (out, u .1 .1))) (p .contents ∙ sym (q .contents)))

@@ -8,4 +8,4 @@ use Rattle.sheet_judge.proofs.judge
 
 pub judge-once : OneOutcome judge.ended judge.Reads.Post
 judge-once κs args r t u v p q =
-    (judge-answer p ∙ sym (judge-answer q), ap (λ (out : List ℕ). (out, u .1)) (p .contents ∙ sym (q .contents)))
+    (judge-answer p ∙ sym (judge-answer q), ap (λ (out : List ℕ). (u .0, (u .1 .0, (out, u .1 .1 .1)))) (p .contents ∙ sym (q .contents)))

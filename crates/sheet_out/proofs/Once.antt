@@ -8,4 +8,4 @@ use Rattle.sheet_out.proofs.export
 
 pub export-once : OneOutcome export.ended export.Reads.Post
 export-once κs args r t u v p q =
-    (export-answer p ∙ sym (export-answer q), ap (λ (out : List ℕ). (out, u .1)) (p .contents ∙ sym (q .contents)))
+    (export-answer p ∙ sym (export-answer q), ap (λ (out : List ℕ). (u .0, (u .1 .0, (out, u .1 .1 .1)))) (p .contents ∙ sym (q .contents)))

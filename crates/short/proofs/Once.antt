@@ -1,6 +1,5 @@
 -- Each promise of this crate is met by one answer alone. Assumes nothing.
 use mathlib.Core.Path.{_≡_, refl, sym, _∙_}
-use mathlib.Core.List.{[]}
 use Rattle.bits.proofs.Once.{OneOutcome}
 use Rattle.states.specs.Normaliser.{viewIs}
 use Rattle.states.specs.declared.View.{View}
@@ -40,4 +39,4 @@ view-same Measures Scales e = cc
 view-same Measures Measures e = refl
 
 pub counts-once : OneOutcome counts.ended counts.Reads.Post
-counts-once κs args r t u v p q = (view-same r t (sym (p 0 0 []) ∙ q 0 0 []), refl)
+counts-once κs args r t u v p q = (view-same r t (sym (p 0 0) ∙ q 0 0), refl)

@@ -11,4 +11,4 @@ check-once κs args r t u v p q = (p ∙ sym q, refl)
 
 pub normalise-once : OneOutcome sinkerpost_normalise.ended sinkerpost_normalise.Reads.Post
 normalise-once κs args r t u v p q =
-    (p .answers ∙ sym (q .answers), ap (λ (out : List ℕ). (out, u .1)) (p .contents ∙ sym (q .contents)))
+    (p .answers ∙ sym (q .answers), ap (λ (out : List ℕ). (u .0, (u .1 .0, (out, u .1 .1 .1)))) (p .contents ∙ sym (q .contents)))

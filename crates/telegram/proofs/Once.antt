@@ -17,16 +17,16 @@ check-once κs args r t u v p q = (answer-is r t (p ∙ sym q), refl)
 
 pub read-once : OneOutcome read.ended read.Reads.Post
 read-once κs args r t u v p q =
-    (read-answer p ∙ sym (read-answer q), ap (λ (run : List ℕ). (run, u .1)) (p .contents ∙ sym (q .contents)))
+    (read-answer p ∙ sym (read-answer q), ap (λ (run : List ℕ). (u .0, (u .1 .0, (run, u .1 .1 .1)))) (p .contents ∙ sym (q .contents)))
 
 pub write-once : OneOutcome write.ended write.Reads.Post
 write-once κs args r t u v p q =
-    (write-answer p ∙ sym (write-answer q), ap (λ (out : List ℕ). (out, u .1)) (p .contents ∙ sym (q .contents)))
+    (write-answer p ∙ sym (write-answer q), ap (λ (out : List ℕ). (u .0, (out, u .1 .1))) (p .contents ∙ sym (q .contents)))
 
 pub label-once : OneOutcome label.ended label.Reads.Post
 label-once κs args r t u v p q =
-    (label-answer p ∙ sym (label-answer q), ap (λ (out : List ℕ). (out, u .1)) (p .contents ∙ sym (q .contents)))
+    (label-answer p ∙ sym (label-answer q), ap (λ (out : List ℕ). (u .0, (out, u .1 .1))) (p .contents ∙ sym (q .contents)))
 
 pub normalise-once : OneOutcome normalise.ended normalise.Reads.Post
 normalise-once κs args r t u v p q =
-    (normalise-answer p ∙ sym (normalise-answer q), ap (λ (out : List ℕ). (out, u .1)) (p .contents ∙ sym (q .contents)))
+    (normalise-answer p ∙ sym (normalise-answer q), ap (λ (out : List ℕ). (u .0, (u .1 .0, (out, u .1 .1 .1)))) (p .contents ∙ sym (q .contents)))
