@@ -1,7 +1,7 @@
 -- Reading and then writing, and writing and then reading, by what each promises alone: the laws that reading and writing are inverse, and
 -- that bytes with clear unused bits are the bytes of their bits. For any terms. Assumes nothing.
 use mathlib.Core.List.{List, _++_}
-use mathlib.Core.Path.{_≡_, refl, sym, ap, _∙_}
+use mathlib.Core.Path.{_≡_, sym, ap, _∙_}
 use Prim.Native.Nat.{ℕ, _≤_, _<_}
 use native.Mathlib.Omega.{arith}
 use lib.Dec.{leb}

@@ -14,7 +14,7 @@ use Rattle.format.specs.Normal.{normal}
 use Rattle.format.specs.Refusals.{inNumbers}
 use Rattle.format.specs.Rules.{Terms}
 use Rattle.format.specs.Telegrams.{Entry, Result, Telegram, bits, bitCount}
-use Rattle.format.specs.Telegrams.Result.{accepted, refused}
+use Rattle.format.specs.Telegrams.Result.{accepted}
 use Rattle.format.specs.declared.Kind.the-variants.{Room}
 use Rattle.format.specs.declared.Refusal.{Refusal}
 use Rattle.format.specs.declared.Answer.{Answer}

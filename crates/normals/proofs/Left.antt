@@ -2,14 +2,14 @@
 use mathlib.Core.Bool.{Bool, true, false, cond}
 use mathlib.Core.List.{List}
 use mathlib.Core.Logic.{_↔_}
-use mathlib.Core.Path.{_≡_, refl, sym, ap, ap₂, _∙_}
+use mathlib.Core.Path.{_≡_, refl, sym, ap, _∙_}
 use Prim.Native.Nat.{ℕ, _≤_}
 use native.Mathlib.Omega.{arith}
 use lib.ListN.{length, take}
 use Rattle.bits.specs.Bits.{bytesOf, bytesFor, same}
 use Rattle.format.specs.Normal.{says, normal}
 use Rattle.format.specs.Rules.{Terms}
-use Rattle.format.specs.Telegrams.{Entry, Result, bits}
+use Rattle.format.specs.Telegrams.{Entry, bits}
 use Rattle.format.specs.Telegrams.Result.{accepted}
 use Rattle.format.specs.declared.Answer.{Answer}
 use Rattle.format.specs.declared.Answer.the-variants.{Accepted}
@@ -23,7 +23,7 @@ use Rattle.states.proofs.Rooms.{roomy}
 use Rattle.normals.specs.Normals.{Renormalised, alike, SaysSame, Ready}
 use Rattle.normals.specs.declared.Alike.{Alike}
 use Rattle.normals.specs.declared.Alike.the-variants.{Same, Other}
-use Rattle.normals.proofs.Forms.{form, original, form-telegram, form-is, form-accepted, bits-long, gives, front, ready, given-size}
+use Rattle.normals.proofs.Forms.{form, original, form-telegram, form-is, form-accepted, gives, front, ready, given-size}
 use Rattle.normals.proofs.Numbers.{alike-is}
 use Rattle.normals.proofs.Pairs.{same-true, same-self, pair-is}
 

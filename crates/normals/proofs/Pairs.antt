@@ -7,7 +7,7 @@ use mathlib.Core.Path.{_≡_, refl, sym, ap, ap₂, _∙_}
 use Prim.Native.Nat.{ℕ, _≤_, _<_}
 use native.Mathlib.Omega.{arith}
 use borrow.Author.Tests.{eqb-true, eq-eqb, le-leb, lt-leb}
-use lib.Dec.{eqb, leb}
+use lib.Dec.{eqb}
 use lib.ListN.{length, take}
 use Rattle.bits.specs.Bits.{bitsOf, bytesOf, bytesFor, Below, same}
 use Rattle.bits.proofs.Bytes.{take-bitsOf-bytesOf}
@@ -19,7 +19,7 @@ use Rattle.format.specs.declared.Answer.{Answer}
 use Rattle.laws.proofs.Demand2.{below-bits}
 use Rattle.states.specs.Reader.{checked}
 use Rattle.states.specs.Normaliser.{Normalise}
-use Rattle.normals.specs.Normals.{Pair, pairInto, noRoom, SaysSame, Ready}
+use Rattle.normals.specs.Normals.{pairInto, noRoom, SaysSame, Ready}
 use Rattle.normals.specs.Normals.Pair.{both}
 use Rattle.normals.specs.declared.Alike.the-variants.{Same, Other, First, Second}
 use Rattle.normals.proofs.Forms.{form, bits-long, holds, front}

@@ -1,5 +1,5 @@
 -- What comes of a call that is lent enough, and of one that is lent too little. Assumes nothing.
-use mathlib.Core.Path.{_≡_, refl}
+use mathlib.Core.Path.{_≡_}
 use Prim.Native.Nat.{ℕ, _≤_, _<_}
 use borrow.Author.Tests.{le-leb, lt-leb}
 use Rattle.format.specs.Telegrams.{Result}

@@ -3,7 +3,7 @@ use mathlib.Core.Path.{_≡_}
 use mathlib.Core.Bool.{Bool, true, cond, _&&_}
 use mathlib.Core.List.{List, _++_}
 use Prim.Native.Nat.{ℕ, _*_, _%_, _^_, _<_, _≤_}
-use lib.Dec.{eqb, leb, ltb}
+use lib.Dec.{eqb, ltb}
 use lib.ListN.{length, take}
 use Rattle.bits.specs.Bits.{bitsOf, bytesFor}
 use Rattle.distance.specs.Steps.{decimetres, steps}
