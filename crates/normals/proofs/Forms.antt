@@ -1,12 +1,10 @@
 -- The normal form that the normaliser leaves, and what normalising it leaves, by what the normaliser promises alone: the laws that a normal form is
 -- accepted, has as many bits as its original and is its own normal form. For any terms. Assumes nothing.
-use mathlib.Core.Bool.{Bool, true, false, cond}
 use mathlib.Core.List.{List}
-use mathlib.Core.Path.{_≡_, refl, sym, ap, _∙_}
+use mathlib.Core.Path.{_≡_, sym, ap, _∙_}
 use Prim.Native.Nat.{ℕ, _≤_, _<_}
 use native.Mathlib.Omega.{arith}
-use borrow.Author.Tests.{leb-true, le-leb}
-use lib.Dec.{leb}
+use borrow.Author.Tests.{le-leb}
 use lib.ListN.{length, take, drop, length-append}
 use lib.Seq.{take-at}
 use Rattle.bits.specs.Bits.{bytesOf, bytesFor}
@@ -15,21 +13,20 @@ use Rattle.format.specs.Refusals.{inNumbers}
 use Rattle.format.specs.Rules.{Terms}
 use Rattle.format.specs.Telegrams.{Entry, Result, Telegram, bits, bitCount}
 use Rattle.format.specs.Telegrams.Result.{accepted}
-use Rattle.format.specs.declared.Kind.the-variants.{Room}
 use Rattle.format.specs.declared.Refusal.{Refusal}
 use Rattle.format.specs.declared.Answer.{Answer}
 use Rattle.format.specs.declared.Answer.the-variants.{Accepted, Refused}
 use Rattle.laws.proofs.Demand2.{length-bits}
 use Rattle.laws.proofs.Demand3.{normal-count, normal-accepted, normal-again}
-use Rattle.states.specs.Reader.{atOnce, checked}
+use Rattle.states.specs.Reader.{checked}
 use Rattle.states.specs.Writer.{sizeOf, bytesOver}
-use Rattle.states.specs.Normaliser.{normalOf, normaliseInto, Normalise}
+use Rattle.states.specs.Normaliser.{normaliseInto, Normalise}
 use Rattle.states.proofs.Accepting.{sent, bytes-long, checks}
 use Rattle.states.proofs.Answered.{normalise-answer}
 use Rattle.states.proofs.Answers.{Sound, check-judges}
-use Rattle.states.proofs.Checking.{was-accepted, was-refused}
-use Rattle.states.proofs.Pointing.{room-accepted, normal-given}
-use Rattle.states.proofs.Rooms.{roomy, roomless}
+use Rattle.states.proofs.Checking.{was-refused}
+use Rattle.states.proofs.Leaving.{normalise-stores}
+use Rattle.states.proofs.Rooms.{with-room, without-room}
 use Rattle.normals.specs.Normals.{renormaliseInto, Renormalised, noRoom, Ready}
 
 -- ---- the normal form of a telegram that is accepted, with room for it
@@ -82,29 +79,14 @@ module _ (p : Terms) (s : List ℕ) (n : ℕ) (x : List ℕ) (g : Ready p s n x)
 
 -- ---- where the normaliser accepts, the telegram is accepted, with room
 
-room-there : (test : Bool) (a : Result) (es : List Entry) → cond test a (atOnce Room) ≡ accepted es → test ≡ true
-room-there true a es e = refl
-room-there false a es e = let z : _≡_ {A = ℕ} 0 1 = cc in absurd (omega arith)
+module _ (p : Terms) (s : List ℕ) (n : ℕ) (x x-after : List ℕ) {a : Answer} (h : Normalise p s n x a x-after) {k : ℕ} (e : a ≡ Accepted k) where
+  pub ready : Ready p s n x
+  ready =
+      let g = normalise-stores h e .1 in
+      record { entries = g .entries; accepts = check-judges p s n .accepts (g .entries) .1 (g .such); room = g .room }
 
-module _ (p : Terms) (s : List ℕ) (n : ℕ) (x : List ℕ) where
-  ready-for : (fs : List Entry) → normaliseInto p s n (length x) ≡ accepted fs → Ready p s n x
-  unfolding normaliseInto
-  ready-for fs h =
-      let g = normal-given (checked p s n) fs (room-accepted (leb 104 (length x)) (normalOf (checked p s n)) fs h) in
-      record {
-        entries = g .0;
-        accepts = g .1;
-        room = leb-true 104 (length x) (room-there (leb 104 (length x)) (normalOf (checked p s n)) fs h);
-      }
-
-  module _ (x-after : List ℕ) {a : Answer} (h : Normalise p s n x a x-after) where
-    pub ready : {k : ℕ} → a ≡ Accepted k → Ready p s n x
-    ready {k} e =
-        let w = was-accepted bitCount (normaliseInto p s n (length x)) a k (normalise-answer h) e in
-        ready-for (w .entries) (w .is)
-
-    pub given-size : {k : ℕ} (e : a ≡ Accepted k) → k ≡ n
-    given-size e = let f = gives p s n x (ready e) x-after h in cc
+  pub given-size : k ≡ n
+  given-size = normalise-stores h e .0
 
 -- ---- normalised, and normalised again
 
@@ -114,12 +96,12 @@ module _ (p : Terms) (s : List ℕ) (n : ℕ) (x y : List ℕ) where
 
   pub no-room-for-second : length y < 104 → Renormalised p s n x y (Refused noRoom) x y
   no-room-for-second h =
-      let f = roomless 104 (length y) onceInto h in
+      let f = without-room 104 (length y) onceInto h in
       record { answers = rw f; once = rw f; twice = rw f }
 
   module _ (x-after : List ℕ) (room : 104 ≤ length y) {a : Answer} (h : Normalise p s n x a x-after) where
     as-once : renormaliseInto p s n (length x) (length y) ≡ onceInto
-    as-once = roomy 104 (length y) onceInto room
+    as-once = with-room 104 (length y) onceInto room
 
     pub form-refused : {r : Refusal} → a ≡ Refused r → Renormalised p s n x y a x-after y
     form-refused {r} e =

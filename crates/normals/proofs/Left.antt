@@ -19,7 +19,7 @@ use Rattle.states.specs.Reader.{checked}
 use Rattle.states.specs.Writer.{bytesOver}
 use Rattle.states.specs.Normaliser.{Normalise}
 use Rattle.states.proofs.Accepting.{one-telegram}
-use Rattle.states.proofs.Rooms.{roomy}
+use Rattle.states.proofs.Rooms.{with-room}
 use Rattle.normals.specs.Normals.{Renormalised, alike, SaysSame, Ready}
 use Rattle.normals.specs.declared.Alike.{Alike}
 use Rattle.normals.specs.declared.Alike.the-variants.{Same, Other}
@@ -98,7 +98,7 @@ module _ (p : Terms) where
       → (answer ≡ Accepted n) × (x-after ≡ bytesOver (accepted (normal es)) x) × (y-after ≡ bytesOver (accepted (normal es)) y)
   renormalised-unchanged s n x y es c rx ry answer x-after y-after h =
       let g : Ready p s n x = record { entries = es; accepts = c; room = rx } in
-      let f = roomy 104 (length y) _ ry ∙ form-is p s n x g in (
+      let f = with-room 104 (length y) _ ry ∙ form-is p s n x g in (
         answer-is answer (Accepted n) (h .answers ∙ rw f),
         h .once ∙ rw f,
         h .twice ∙ rw f,

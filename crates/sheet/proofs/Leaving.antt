@@ -21,7 +21,8 @@ use Rattle.states.specs.Labels.{numbers}
 use Rattle.states.specs.Reader.{checked}
 use Rattle.states.proofs.Accepting.{bytes-long}
 use Rattle.states.proofs.Answers.{Sound, check-judges}
-use Rattle.states.proofs.Leaving.{Stores, Listed, stored, roomy, few-values, few-bytes}
+use Rattle.states.proofs.Leaving.{Stores, Listed, stored, few-values, few-bytes}
+use Rattle.states.proofs.Rooms.{had-room}
 use Rattle.sheet.specs.Rows.{heading, rowText, sheetText}
 use Rattle.sheet.specs.Sheets.{numberOf, exported, lengthOf, sheetOver, Imported, otherName, named, judged, importInto, sizeOf, bytesOver, Export, Import}
 use Rattle.sheet.specs.Sheets.Imported.{taken, refusedBy, refusedAt}
@@ -58,7 +59,7 @@ module _ {p : Terms} {s : List ℕ} {n : ℕ} {before after : List ℕ} {reply :
   unfolding exported
   export-stores {m} e =
       let w = written p s n (length before) m (sym e ∙ export-answer h) in
-      let g = roomy 65536 (length before) (checked p s n) (w .entries) (w .is) in
+      let g = had-room 65536 (length before) (checked p s n) (w .entries) (w .is) in
       let j = check-judges p s n .accepts (w .entries) .0 (g .1) in
       stored (Sound p s n) sheetText (w .entries) j (sym (w .long)) (rw (w .long) (sheet-few p (j .telegram))) (g .0)
       (h .contents ∙ ap (λ (x : Result). sheetOver x before) (w .is))

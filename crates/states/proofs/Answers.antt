@@ -1,7 +1,7 @@
 -- What the answers of the check and of the reader say: which number is given when, that an accepted telegram is tiled, and what the lent
 -- run then holds. For any terms. Assumes nothing.
 use mathlib.Core.Bool.{Bool, true, false, cond, _&&_}
-use mathlib.Core.List.{List, [], _∷_, _++_}
+use mathlib.Core.List.{List, [], _∷_}
 use mathlib.Core.Logic.{_↔_, _⊎_, inl, inr}
 use mathlib.Core.Option.{Option, some, none}
 use mathlib.Core.Path.{_≡_, refl, sym, ap, _∙_}
@@ -12,7 +12,7 @@ use borrow.Author.Tests.{leb-true, leb-false, le-leb, lt-leb, eqb-true, eq-eqb}
 use lib.Dec.{eqb, leb}
 use lib.Pow.{pow-pos}
 use lib.ListN.{length, take, drop, length-append}
-use lib.Seq.{length-take-le, length-front, take-append-seam, drop-append-seam}
+use lib.Seq.{length-take-le}
 use Rattle.bits.specs.Bits.{digits, valueOf, bitsOf, bytesFor, Below}
 use Rattle.bits.proofs.Digits.{length-digits}
 use Rattle.bits.proofs.Bytes.{below-bitsOf, below-take, length-bitsOf}
@@ -30,9 +30,8 @@ use Rattle.laws.proofs.Refused.{Refused, Decides, read-decides}
 use Rattle.laws.proofs.Refused.Refused.{lacking, breaking, trailing, later}
 use Rattle.laws.proofs.Sources.{width-positive}
 use Rattle.laws.proofs.Tile.{Tiled, tiled, bitCounts}
-use Rattle.states.specs.Reader.{sized, clear, checked, readInto, answerOf, valuesOver, Read}
+use Rattle.states.specs.Reader.{sized, clear, checked, readInto, answerOf}
 use Rattle.laws.proofs.Order.{of-value-number, onward-breaks, broken-of-value, ruleDue, notedAt}
-use Rattle.states.proofs.Answered.{read-answer}
 use Rattle.format.specs.declared.Answer.the-variants as Answers
 
 -- ---- which number is given when
@@ -214,7 +213,7 @@ accepted-tiled p s n es h =
     let t = tiled p (a .telegram) in
     (t, sym (length-sent s n (a .size)) ∙ ap length (a .is) ∙ t .all)
 
--- ---- what the lent run then holds
+-- ---- how many values there are
 
 -- a field has a bit at least, so there are no more values than bits
 pub values-bits : (es : List Entry) → length (values es) ≤ length (bits es)
@@ -224,41 +223,6 @@ values-bits (e ∷ es) =
     let h = values-bits es in
     rw (length-append (digits (e .field .width) (e .value)) (bits es), length-digits (e .field .width) (e .value))
     (omega (arith, width-positive (e .field)))
-
--- the count of values in front, and behind them what was there
-pub record Stored (es : List Entry) (count : ℕ) (before after : List ℕ) : Type 0 where
-  pub counted : count ≡ length (values es)
-  pub front : take count after ≡ values es
-  pub behind : drop count after ≡ drop count before
-  pub long : length after ≡ length before
-
-module _ (p : Terms) (s : List ℕ) (n : ℕ) (before after : List ℕ) where
-  stored : (es : List Entry) (count : ℕ) → count ≡ length (values es) → after ≡ values es ++ drop (length (values es)) before
-      → length (values es) ≤ length before → Stored es count before after
-  stored es count c a l =
-      rw (c, a)
-      (record {
-        counted = refl;
-        front = take-append-seam (values es) (drop (length (values es)) before);
-        behind = drop-append-seam (values es) (drop (length (values es)) before);
-        long = length-front before (values es) (length (values es)) (sym (length-take-le (length (values es)) before l));
-      })
-
-  -- "output past the last value .. keeps its former contents"
-  pub accepted-stores : (count : ℕ) → Read p s n before (Answers.Accepted count) after
-      → (es : List Entry) × (checked p s n ≡ accepted es) × Stored es count before after
-  accepted-stores count h =
-      let g = answer-accepted (readInto p s n (length before)) count .0 (read-answer h) in
-      let es = g .0 in
-      let a = read-judges p s n (length before) .accepts es .0 (g .1) in
-      let room = a .0 in
-      let z = sized-is s n .0 (a .1 .size) in
-      let sent = ap length (a .1 .is) in
-      let l = length-sent s n (a .1 .size) in (
-        es,
-        check-judges p s n .accepts es .1 (a .1),
-        stored es count (g .2) (h .contents ∙ ap (λ (r : Result). valuesOver r before) (g .1)) (omega (arith, values-bits es)),
-      )
 
 -- ---- each number by its own rule
 

@@ -1,15 +1,12 @@
 -- "On success, output past the last value, or past byte ceil(n/8) - 1, keeps its former contents. A refusal gives a number and a place and
 -- changes no output": of the check, which is lent no output, of the reader, the writer, `label` and the normaliser, each from its promise
 -- alone. For any terms. Assumes nothing.
-use mathlib.Core.Bool.{Bool, true, false, cond}
 use mathlib.Core.List.{List, [], _∷_, _++_}
 use mathlib.Core.Path.{_≡_, refl, sym, ap, _∙_}
 use Prim.Native.Nat.{ℕ, suc, _≤_}
 use native.Mathlib.Omega.{arith}
-use borrow.Author.Tests.{leb-true}
-use lib.Dec.{leb}
-use lib.ListN.{length, drop}
-use lib.Seq.{length-front, length-take-le}
+use lib.ListN.{length, take, drop, length-append}
+use lib.Seq.{length-front, length-take-le, take-at}
 use Rattle.bits.specs.Bits.{bytesOf, bytesFor}
 use Rattle.format.specs.Normal.{normal}
 use Rattle.format.specs.Refusals.{inNumbers}
@@ -18,12 +15,11 @@ use Rattle.format.specs.Telegrams.{Entry, Result, Telegram, bits, bitCount, val
 use Rattle.format.specs.Telegrams.Result.{accepted, refused}
 use Rattle.format.specs.declared.Answer.{Answer}
 use Rattle.format.specs.declared.Answer.the-variants.{Accepted, Refused}
-use Rattle.format.specs.declared.Kind.the-variants.{Room}
 use Rattle.format.specs.declared.Refusal.{Refusal}
 use Rattle.format.proofs.Numbers.{answer-is}
 use Rattle.laws.proofs.Demand2.{length-bits, write-is, room}
 use Rattle.laws.proofs.Demand3.{normal-accepted, normal-count}
-use Rattle.states.specs.Reader.{atOnce, checked, readInto, answered, answerOf, valuesOver, Read}
+use Rattle.states.specs.Reader.{checked, readInto, answered, answerOf, valuesOver, Read}
 use Rattle.states.specs.Writer.{writeInto, bytesOver, Write}
 use Rattle.states.specs.Labels.{numbers, numbersIn, labelInto, numbersOver, Label}
 use Rattle.states.specs.Normaliser.{normalOf, normaliseInto, Normalise}
@@ -32,6 +28,7 @@ use Rattle.states.proofs.Answered.{read-answer, write-answer, label-ans
 use Rattle.states.proofs.Answers.{Sound, Unsound, check-judges, values-bits}
 use Rattle.states.proofs.Checking.{was-accepted, was-refused}
 use Rattle.states.proofs.Pointing.{normal-given}
+use Rattle.states.proofs.Rooms.{had-room}
 
 -- ---- what they share
 
@@ -58,19 +55,21 @@ stored Such items {many} {least} {before} {after} es such m few h e =
       long = ap length left ∙ length-front before (items es) many (m ∙ sym (length-take-le many before (omega arith)));
     }
 
+-- so many are there to be lent, and they are the items
+module _ {Such : List Entry → Type 0} {items : List Entry → List ℕ} {many least : ℕ} {before after : List ℕ} (h : Stores Such items many least before after) where
+  pub stored-lent : many ≤ length after
+  stored-lent =
+      let e = ap length (h .left) ∙ length-append (items (h .entries)) (drop many before) in
+      let m = h .as-many in
+      omega arith
+
+  pub stored-front : (k : ℕ) → k ≡ many → take k after ≡ items (h .entries)
+  stored-front k e = ap (take k) (h .left) ∙ take-at (items (h .entries)) (drop many before) k (h .as-many ∙ sym e)
+
 -- what a refusal leaves is what is over the refused
 kept : (count : List Entry → ℕ) (over : Result → List ℕ) (x : Result) {a : Answer} {r : Refusal} {after : List ℕ}
     → a ≡ answered count x → after ≡ over x → a ≡ Refused r → after ≡ over (refused r)
 kept count over x {a} {r} p c q = c ∙ ap over (was-refused count x a r p q)
-
--- what is accepted after the test of the room had room
-pub roomy : (least lent : ℕ) (x : Result) (es : List Entry) → cond (leb least lent) x (atOnce Room) ≡ accepted es
-    → (least ≤ lent) × (x ≡ accepted es)
-roomy least lent x es e = by (leb least lent) refl e
-  where
-    by : (b : Bool) → leb least lent ≡ b → cond b x (atOnce Room) ≡ accepted es → (least ≤ lent) × (x ≡ accepted es)
-    by true q z = (leb-true least lent q, z)
-    by false q z = let w : _≡_ {A = ℕ} 0 1 = cc in absurd (omega arith)
 
 -- a telegram has at most 830 values, and at most 104 bytes
 pub few-values : (p : Terms) {es : List Entry} → Telegram p es → length (values es) ≤ 830
@@ -106,7 +105,7 @@ module _ {p : Terms} {s : List ℕ} {n : ℕ} {before after : List ℕ} {a : Ans
   unfolding readInto
   read-stores {count} e =
       let w = was-accepted (λ es. length (values es)) (readInto p s n (length before)) a count (read-answer h) e in
-      let g = roomy 830 (length before) (checked p s n) (w .entries) (w .is) in
+      let g = had-room 830 (length before) (checked p s n) (w .entries) (w .is) in
       let j = check-judges p s n .accepts (w .entries) .0 (g .1) in
       let few = few-values p (j .telegram) in
       stored (Sound p s n) values (w .entries) j (sym (w .counted)) (rw (w .counted) few) (g .0)
@@ -130,7 +129,7 @@ module _ {p : Terms} {vs before after : List ℕ} {a : Answer} (h : Write p vs b
   unfolding writeInto
   write-stores {n} e =
       let w = was-accepted bitCount (writeInto p vs (length before)) a n (write-answer h) e in
-      let g = roomy 104 (length before) (write p vs) (w .entries) (w .is) in
+      let g = had-room 104 (length before) (write p vs) (w .entries) (w .is) in
       let t = listed p vs n (w .entries) (g .1) (w .counted) in
       stored (Listed p vs n) (λ es. bytesOf (bits es)) (w .entries) t (bytes-long p (w .entries) (t .0) n (w .counted))
       (few-bytes p (w .entries) (t .0) n (w .counted)) (g .0) (h .contents ∙ ap (λ (x : Result). bytesOver x before) (w .is))
@@ -148,7 +147,7 @@ module _ {p : Terms} {vs before after : List ℕ} {a : Answer} (h : Label p vs b
   unfolding labelInto
   label-stores {n} e =
       let w = was-accepted bitCount (labelInto p vs (length before)) a n (label-answer h) e in
-      let g = roomy 830 (length before) (write p vs) (w .entries) (w .is) in
+      let g = had-room 830 (length before) (write p vs) (w .entries) (w .is) in
       let t = listed p vs n (w .entries) (g .1) (w .counted) in
       let m : length (numbers (w .entries)) ≡ length vs = same-length (w .entries) ∙ ap length (sym (t .1)) in
       let few : length vs ≤ 830 = rw (t .1) (few-values p (t .0)) in
@@ -162,7 +161,7 @@ pub normal-stored : (p : Terms) (s : List ℕ) (n : ℕ) {before after : List �
     → (bitCount fs ≡ n) × Stores (Sound p s n) (λ es. bytesOf (bits (normal es))) (bytesFor n) 104 before after
 unfolding normaliseInto
 normal-stored p s n {before} {after} fs e c =
-    let g = roomy 104 (length before) (normalOf (checked p s n)) fs e in
+    let g = had-room 104 (length before) (normalOf (checked p s n)) fs e in
     let f = normal-given (checked p s n) fs (g .1) in
     let es = f .0 in
     let j = check-judges p s n .accepts es .0 (f .1) in
