@@ -1,61 +1,75 @@
 // What a round trip answers and leaves, as text.
 use format::Answer;
+use format::Refusal;
 use libc::STDOUT_FILENO;
 use normals::Alike;
 
-pub(crate) fn say(text: &[u8]) {
+pub(crate) fn run_and_bytes_left(name: &[u8], n: usize, a: Answer, run: &[u64], out: &[u8]) {
+    named(name, n);
+    answer(a);
+    print_run(run);
+    print_bytes(out);
+}
+
+pub(crate) fn bytes_left(name: &[u8], n: usize, a: Answer, x: &[u8], y: &[u8]) {
+    named(name, n);
+    answer(a);
+    print_bytes(x);
+    print_bytes(y);
+}
+
+pub(crate) fn compared(name: &[u8], a: Alike, x: &[u8], y: &[u8]) {
+    say(name);
+    alike(a);
+    print_bytes(x);
+    print_bytes(y);
+}
+
+fn say(text: &[u8]) {
     io::write_all(STDOUT_FILENO, text);
 }
 
-pub(crate) fn number(n: u64) {
+fn number(n: u64) {
     io::print_decimal(STDOUT_FILENO, n);
 }
 
-// The name of a row: of how many bits or values, and how many are lent of each of the two.
-pub(crate) fn sizes(name: &[u8], n: usize, first: usize, second: usize) {
+fn named(name: &[u8], n: usize) {
     say(name);
     number(n as u64);
-    say(b", lent ");
-    number(first as u64);
-    say(b" and ");
-    number(second as u64);
     say(b":");
 }
 
-pub(crate) fn answer(a: Answer) {
+fn answer(a: Answer) {
     match a {
         Answer::Accepted(n) => {
             say(b" ok ");
             number(n as u64);
+            say(b"\n");
         }
-        Answer::Refused(r) => {
-            let kind = r.kind;
-            say(b" refused ");
-            number(table::number(kind));
-            say(b" ");
-            number(r.place as u64);
-        }
+        Answer::Refused(r) => refused(b" refused ", r),
     }
-    say(b"\n");
 }
 
-pub(crate) fn alike(a: Alike) {
+fn alike(a: Alike) {
     match a {
         Alike::Same => say(b" same\n"),
         Alike::Other => say(b" other\n"),
-        Alike::First(r) => {
-            say(b" first");
-            answer(Answer::Refused(r));
-        }
-        Alike::Second(r) => {
-            say(b" second");
-            answer(Answer::Refused(r));
-        }
+        Alike::First(r) => refused(b" first refused ", r),
+        Alike::Second(r) => refused(b" second refused ", r),
     }
 }
 
+fn refused(text: &[u8], r: Refusal) {
+    let kind = r.kind;
+    say(text);
+    number(table::number(kind));
+    say(b" ");
+    number(r.place as u64);
+    say(b"\n");
+}
+
 // The values that are not those that were lent, each behind its place.
-pub(crate) fn print_run(run: &[u64]) {
+fn print_run(run: &[u64]) {
     let mut i = 0;
     while i < run.len() {
         print_value(i as u64, run[i]);
@@ -74,7 +88,7 @@ fn print_value(i: u64, v: u64) {
     number(v);
 }
 
-pub(crate) fn print_bytes(s: &[u8]) {
+fn print_bytes(s: &[u8]) {
     let mut i = 0;
     while i < s.len() {
         say(b" ");
