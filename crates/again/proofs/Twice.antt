@@ -14,7 +14,7 @@ use Rattle.format.specs.declared.Refusal.{Refusal}
 use Rattle.format.specs.declared.Answer.{Answer}
 use Rattle.format.specs.declared.Answer.the-variants.{Accepted, Refused}
 use Rattle.laws.proofs.Demand2.{length-bits, writes}
-use Rattle.states.specs.Reader.{checked, readInto, Read}
+use Rattle.states.specs.Reader.{early, checked, readInto, Read}
 use Rattle.states.specs.Writer.{writeInto, Write}
 use Rattle.states.proofs.Answered.{read-answer, write-answer}
 use Rattle.states.proofs.Answers.{Sound, check-judges, answer-refused}
@@ -46,7 +46,7 @@ module _ (p : Terms) (s : List ℕ) (n : ℕ) (run out : List ℕ) where
   abbrev afterRead : Result
   afterRead = readInto p s n (length run)
 
-  pub no-room-to-write : length out < 104 → Rewritten p s n run out (Refused (record { kind = Room; place = 0 })) run out
+  pub no-room-to-write : length out < 104 → Rewritten p s n run out (Refused (early Room)) run out
   no-room-to-write h =
       let f = without-room 104 (length out) afterRead h in
       record { answers = rw f; values = rw f; telegram = rw f }
@@ -88,7 +88,7 @@ module _ (p : Terms) (vs out run : List ℕ) where
   abbrev afterWrite : Result
   afterWrite = writeInto p vs (length out)
 
-  pub no-room-to-read : length run < 830 → Reread p vs out run (Refused (record { kind = Room; place = 0 })) out run
+  pub no-room-to-read : length run < 830 → Reread p vs out run (Refused (early Room)) out run
   no-room-to-read h =
       let f = without-room 830 (length run) afterWrite h in
       record { answers = rw f; telegram = rw f; values = rw f }

@@ -4,7 +4,7 @@ use mathlib.Core.List.{List, [], _∷_, _++_, append-assoc, append-nil}
 use Prim.Native.Nat.{ℕ, zero, suc, _+_, _-_, _*_, _^_, _≤_, _<_}
 use native.Mathlib.Nat.{zero-add, suc-add}
 use native.Mathlib.Omega.{arith}
-use lib.ListN.{length, take, drop, getD, set, replicate, length-append}
+use lib.ListN.{length, take, drop, getD, replicate, length-append}
 use lib.Seq.{drop-at, take-at}
 use Rattle.bits.specs.Bits.{digits, valueOf, bitsOf, bytesFor, filled, packed, bytesOf, Below}
 use Rattle.bits.proofs.Digits.{length-digits, below-digits, valueOf-digits, valueOf-lt, digits-valueOf-at}
@@ -25,11 +25,6 @@ module _ (k : ℕ) where
   below-drop zero xs h = h
   below-drop (suc n) [] h = tt
   below-drop (suc n) (x ∷ xs) h = below-drop n xs (h .1)
-
-  pub below-set : (xs : List ℕ) (i y : ℕ) → Below k xs → y < k → Below k (set xs i y)
-  below-set [] i y h l = tt
-  below-set (x ∷ xs) zero y h l = (l, h .1)
-  below-set (x ∷ xs) (suc i) y h l = (h .0, below-set xs i y (h .1) l)
 
   -- what the code knows of a slice, element by element
   pub below-known : (xs : List ℕ) → ((i : ℕ) → getD xs i 0 < k) → Below k xs

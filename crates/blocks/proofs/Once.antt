@@ -17,31 +17,33 @@ use Rattle.blocks.proofs.next
 pub start-once : OneOutcome start.ended start.Reads.Post
 start-once κs args r t u v p q = (p ∙ sym q, refl)
 
--- what the outside brings: what the block then holds, and, where a block is read, how many bytes came, or that none could be read
+-- what the outside brings where a block is read: what the block then holds, and how many bytes came, or that none could be read
 abbrev Brought : Input → Type 0
-Brought i = List ℕ × (i .ended ≡ false → i .to ≤ i .from → Filled)
+Brought i = i .ended ≡ false → i .to ≤ i .from → List ℕ × Filled
 
 abbrev brought : {block line : List ℕ} {i r : Input} {block′ line′ : List ℕ} → Steps block line i r block′ line′ → Brought i
-brought {block′ = after} h = (after, λ e f. h .reads e f .got)
+brought {block′ = after} h = λ e f. (after, h .reads e f .got)
 
 module _ {block line : List ℕ} {i r t : Input} {b c l m : List ℕ} (h : Steps block line i r b l) (g : Steps block line i t c m)
     (e : brought h ≡ brought g) where
-  same-step : (r ≡ t) × (l ≡ m)
+  same-step : (r ≡ t) × (b ≡ c) × (l ≡ m)
   same-step = by (i .ended) refl (ltb (i .from) (i .to)) refl
     where
-      by : (x : Bool) → i .ended ≡ x → (y : Bool) → ltb (i .from) (i .to) ≡ y → (r ≡ t) × (l ≡ m)
-      by true x y f = (h .stays x .0 ∙ sym (g .stays x .0), h .stays x .2 ∙ sym (g .stays x .2))
+      by : (x : Bool) → i .ended ≡ x → (y : Bool) → ltb (i .from) (i .to) ≡ y → (r ≡ t) × (b ≡ c) × (l ≡ m)
+      by true x y f =
+          (h .stays x .0 ∙ sym (g .stays x .0), h .stays x .1 ∙ sym (g .stays x .1), h .stays x .2 ∙ sym (g .stays x .2))
       by false x true f =
-          let k = h .goes x (ltb-true (i .from) (i .to) f) .1 in
-          let n = g .goes x (ltb-true (i .from) (i .to) f) .1 in
-          (k .stands ∙ sym (n .stands), k .text ∙ sym (n .text))
+          let k = h .goes x (ltb-true (i .from) (i .to) f) in
+          let n = g .goes x (ltb-true (i .from) (i .to) f) in
+          (k .1 .stands ∙ sym (n .1 .stands), k .0 ∙ sym (n .0), k .1 .text ∙ sym (n .1 .text))
       by false x false f =
           let few : i .to ≤ i .from = omega (arith, ltb-false (i .from) (i .to) f) in
           let k = h .reads x few .arrives in
           let n = g .reads x few .arrives in
-          let same : b ≡ c = ap (λ (w : Brought i). w .0) e in
-          let got : h .reads x few .got ≡ g .reads x few .got = ap (λ (w : Brought i). w .1 x few) e in (
+          let same : b ≡ c = ap (λ (w : Brought i). w x few .0) e in
+          let got : h .reads x few .got ≡ g .reads x few .got = ap (λ (w : Brought i). w x few .1) e in (
             k .stands ∙ ap₂ (λ (d : List ℕ) (z : Filled). arrivedAt d line i z) same got ∙ sym (n .stands),
+            same,
             k .text ∙ ap₂ (λ (d : List ℕ) (z : Filled). arrivedLine d line i z) same got ∙ sym (n .text),
           )
 
@@ -49,5 +51,5 @@ pub next-once : OneOutcomeGiven next.ended next.Reads.Post (λ κs args r s p. b
 next-once κs args r t u v p q e =
     let same = same-step p q e in (
       same .0,
-      ap₂ (λ (block line : List ℕ). (block, (line, u .1 .1))) (ap (λ (w : Brought (args .1 .1 .0)). w .0) e) (same .1),
+      ap₂ (λ (block line : List ℕ). (block, (line, u .1 .1))) (same .1) (same .2),
     )

@@ -47,12 +47,12 @@ kind-is Trailing = refl
 kind-is Wide = refl
 kind-is Full = refl
 
-pub number-once : (j k : Kind) → numberOf j ≡ numberOf k → j ≡ k
-number-once j k h = sym (kind-is j) ∙ ap kindOf h ∙ kind-is k
+pub kind-by-number : (j k : Kind) → numberOf j ≡ numberOf k → j ≡ k
+kind-by-number j k h = sym (kind-is j) ∙ ap kindOf h ∙ kind-is k
 
 -- a refusal by its number and its place
 pub refusal-is : (r q : Refusal) → numberOf (r .kind) ≡ numberOf (q .kind) → r .place ≡ q .place → r ≡ q
-refusal-is r q k p = ap₂ (λ (kind : Kind) (place : ℕ). record { kind = kind; place = place }) (number-once (r .kind) (q .kind) k) p
+refusal-is r q k p = ap₂ (λ (kind : Kind) (place : ℕ). record { kind = kind; place = place }) (kind-by-number (r .kind) (q .kind) k) p
 
 -- two answers with the same numbers have the same number, and the same value
 pub number-same : {x y : ℕ × ℕ} → x ≡ y → x .0 ≡ y .0

@@ -3,7 +3,7 @@
 use mathlib.Core.Bool.{Bool, cond, not}
 use mathlib.Core.List.{List, [], _∷_}
 use mathlib.Core.Option.{Option, some}
-use mathlib.Core.Path.{_≡_, refl, sym, ap, _∙_}
+use mathlib.Core.Path.{_≡_, refl, ap}
 use Prim.Native.Nat.{ℕ, zero, suc}
 use lib.Dec.{leb}
 use lib.ListN.{length}
@@ -12,10 +12,9 @@ use Rattle.format.specs.Fields.Rule.{any, packet, user, direction, size, pig, t
 use Rattle.format.specs.Rules.{State, Context, Terms, Level, Next, begun, step, field, past, next, noted, onward, verdict, ruleOf, unless, misdirected, broken, moved}
 use Rattle.format.specs.Rules.Level.{inHeader, inPacket, inUser}
 use Rattle.format.specs.Rules.Next.{go, over, breaks}
-use Rattle.format.specs.Telegrams.{Entry, entry, Taken, Driven, Result, onTaken, onNext, push, drive, whole, read, write, fromBits, fromValues, Run}
+use Rattle.format.specs.Telegrams.{Entry, entry, Taken, Driven, Result, onTaken, onNext, push, drive, whole, read, write, fromBits, fromValues}
 use Rattle.format.specs.Telegrams.Driven.{ended, stopped}
 use Rattle.format.specs.Telegrams.Result.{accepted, refused}
-use Rattle.format.specs.Telegrams.Run.{last, more}
 use Rattle.format.specs.Telegrams.Taken.{got, lacks}
 use Rattle.format.specs.declared.Kind.{Kind}
 use Rattle.format.specs.declared.Kind.the-variants.{Repeated, Value}
@@ -57,11 +56,6 @@ module _ (p q : Terms) (agree : (c : Context) (v : ℕ) → p .collides c v ≡ 
   step-agree s v =
       let r = ruleOf (field s .sense) in
       ap (λ (o : Option Kind). verdict o (onward (past s) (next (s .todo) v) (noted r (s .context) (s .at) v))) (broken-agree (s .context) r v)
-
-  -- the same entries are sent
-  pub run-agree : {s : State} {es : List Entry} → Run p s es → Run q s es
-  run-agree (last {s = s} {v = v} f e) = last f (sym (step-agree s v) ∙ e)
-  run-agree (more {s = s} {v = v} f e r) = more f (sym (step-agree s v) ∙ e) (run-agree r)
 
   -- ---- so the driver comes to the same, from any source
 

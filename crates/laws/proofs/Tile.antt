@@ -10,8 +10,7 @@ use lib.ListN.{length, length-append}
 use Rattle.format.specs.Fields.{Field, NID-PACKET, END}
 use Rattle.format.specs.Packets.{Items, header}
 use Rattle.format.specs.Packets.Items.{end, nest, send, sendIf, sendEither, sendTimes}
-use Rattle.format.specs.Rules.{State, Terms, begun, step, due, named, next}
-use Rattle.format.specs.Rules.Next.{over}
+use Rattle.format.specs.Rules.{State, Terms, begun, due, named, next}
 use Rattle.format.specs.Telegrams.{Entry, entry, bits, bitCount, values, valuesIn, begins, Divided, before, divided, Run, Telegram}
 use Rattle.format.specs.Telegrams.Run.{last, more}
 use Rattle.laws.proofs.Sources.{width-named}
@@ -93,11 +92,6 @@ module _ (p : Terms) where
       let m = over-mark p s v e in
       mark-alone (entry s v) (mark-is (s .todo) v (m .0) (m .1))
   marked (more {s = s} {v = v} {es = es} f e r) = mark-after (begins (entry s v)) (entry s v) (divided es) (marked r)
-
-  pub mark-over : {s : State} {es : List Entry} (r : Run p s es) → step p (beforeMark r) 255 ≡ over
-  unfolding beforeMark
-  mark-over (last {s = s} {v = v} f e) = sym (ap (step p s) (over-mark p s v e .1)) ∙ e
-  mark-over (more f e r) = mark-over r
 
   -- it begins 8 bits before the end of the run
   pub mark-at : {s : State} {es : List Entry} (r : Run p s es) → beforeMark r .at + 8 ≡ s .at + bitCount es

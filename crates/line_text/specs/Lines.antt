@@ -6,7 +6,7 @@ use lib.Dec.{eqb, leb}
 use lib.ListN.{length, getD}
 use Rattle.pieces.specs.Numbers.{decimal}
 use Rattle.sheet.specs.Rows.{textOf}
-use Rattle.sheet.specs.Sheets.{numberOf, valueOf}
+use Rattle.sheet.specs.Sheets.{inNumbers}
 use Rattle.sheet.specs.declared.Reply.{Reply}
 
 abbrev pub newline : List ℕ
@@ -18,7 +18,7 @@ lineLength input = cond (eqb (getD input (length input - 1) 0) 10) (length input
 
 -- `refused NUMBER PLACE`; of a row of a sheet, `refused 20 ROW`
 unfoldable pub refusal : Reply → List ℕ
-refusal r = textOf "refused " ++ decimal (numberOf r) ++ textOf " " ++ decimal (valueOf r) ++ newline
+refusal r = textOf "refused " ++ decimal (inNumbers r .0) ++ textOf " " ++ decimal (inNumbers r .1) ++ newline
 
 -- what is put of it into a text of so many characters: nothing under 64, in which every refusal has room
 unfoldable pub refusalInto : Reply → ℕ → List ℕ

@@ -13,12 +13,13 @@ use Rattle.format.specs.Refusals.{inNumbers}
 use Rattle.format.specs.Rules.{Terms}
 use Rattle.format.specs.Telegrams.{Entry, Result, Telegram, bits, bitCount}
 use Rattle.format.specs.Telegrams.Result.{accepted}
+use Rattle.format.specs.declared.Kind.the-variants.{Room}
 use Rattle.format.specs.declared.Refusal.{Refusal}
 use Rattle.format.specs.declared.Answer.{Answer}
 use Rattle.format.specs.declared.Answer.the-variants.{Accepted, Refused}
 use Rattle.laws.proofs.Demand2.{length-bits}
 use Rattle.laws.proofs.Demand3.{normal-count, normal-accepted, normal-again}
-use Rattle.states.specs.Reader.{checked}
+use Rattle.states.specs.Reader.{early, checked}
 use Rattle.states.specs.Writer.{sizeOf, bytesOver}
 use Rattle.states.specs.Normaliser.{normaliseInto, Normalise}
 use Rattle.states.proofs.Accepting.{sent, bytes-long, checks}
@@ -27,7 +28,7 @@ use Rattle.states.proofs.Answers.{Sound, check-judges}
 use Rattle.states.proofs.Checking.{was-refused}
 use Rattle.states.proofs.Leaving.{normalise-stores}
 use Rattle.states.proofs.Rooms.{with-room, without-room}
-use Rattle.normals.specs.Normals.{renormaliseInto, Renormalised, noRoom, Ready}
+use Rattle.normals.specs.Normals.{renormaliseInto, Renormalised, Ready}
 
 -- ---- the normal form of a telegram that is accepted, with room for it
 
@@ -94,7 +95,7 @@ module _ (p : Terms) (s : List ℕ) (n : ℕ) (x y : List ℕ) where
   abbrev onceInto : Result
   onceInto = normaliseInto p s n (length x)
 
-  pub no-room-for-second : length y < 104 → Renormalised p s n x y (Refused noRoom) x y
+  pub no-room-for-second : length y < 104 → Renormalised p s n x y (Refused (early Room)) x y
   no-room-for-second h =
       let f = without-room 104 (length y) onceInto h in
       record { answers = rw f; once = rw f; twice = rw f }

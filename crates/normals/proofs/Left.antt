@@ -1,10 +1,8 @@
--- Demand 3, of the bytes that the normaliser leaves, by its promise alone; and of the two functions here, by theirs. For any terms. Assumes nothing.
-use mathlib.Core.Bool.{Bool, true, false, cond}
+-- Demand 3, of the bytes that the normaliser leaves, by its promise alone; and of `renormalised`, by its own. For any terms. Assumes nothing.
 use mathlib.Core.List.{List}
 use mathlib.Core.Logic.{_↔_}
 use mathlib.Core.Path.{_≡_, refl, sym, ap, _∙_}
 use Prim.Native.Nat.{ℕ, _≤_}
-use native.Mathlib.Omega.{arith}
 use lib.ListN.{length, take}
 use Rattle.bits.specs.Bits.{bytesOf, bytesFor, same}
 use Rattle.format.specs.Normal.{says, normal}
@@ -20,12 +18,8 @@ use Rattle.states.specs.Writer.{bytesOver}
 use Rattle.states.specs.Normaliser.{Normalise}
 use Rattle.states.proofs.Accepting.{one-telegram}
 use Rattle.states.proofs.Rooms.{with-room}
-use Rattle.normals.specs.Normals.{Renormalised, alike, SaysSame, Ready}
-use Rattle.normals.specs.declared.Alike.{Alike}
-use Rattle.normals.specs.declared.Alike.the-variants.{Same, Other}
+use Rattle.normals.specs.Normals.{Renormalised, Ready}
 use Rattle.normals.proofs.Forms.{form, original, form-telegram, form-is, form-accepted, gives, front, ready, given-size}
-use Rattle.normals.proofs.Numbers.{alike-is}
-use Rattle.normals.proofs.Pairs.{same-true, same-self, pair-is}
 
 -- the ceil(n/8) bytes in front
 abbrev pub left : ℕ → List ℕ → List ℕ
@@ -89,7 +83,7 @@ says-just-where p s n t m x y x-after y-after h e i f es fs c d =
       λ z. w .1 (ap bits (one-telegram p _ _ (form-telegram p s n x g) (form-telegram p t m y j) (sym q ∙ z ∙ r))),
     )
 
--- ---- of the two functions
+-- ---- of `renormalised`
 
 module _ (p : Terms) where
   -- "normalising it again changes nothing": the answer is n, and both lent slices begin with the same bytes
@@ -102,21 +96,4 @@ module _ (p : Terms) where
         answer-is answer (Accepted n) (h .answers ∙ rw f),
         h .once ∙ rw f,
         h .twice ∙ rw f,
-      )
-
-  by-same : (t : Bool) → (cond t Same Other ≡ Same) ↔ (t ≡ true)
-  by-same true = (λ h. refl, λ h. refl)
-  by-same false = (λ h. let z : _≡_ {A = ℕ} 0 1 = cc in absurd (omega arith), λ h. let z : _≡_ {A = ℕ} 0 1 = cc in absurd (omega arith))
-
-  -- "They say the same .. exactly when their normal forms have the same bits": the answer is Same just where they do
-  pub same-just-where : (s : List ℕ) (n : ℕ) (t : List ℕ) (m : ℕ) (x y : List ℕ) (g : Ready p s n x) (f : Ready p t m y) (answer : Alike)
-      (x-after y-after : List ℕ) → SaysSame p s n t m x y answer x-after y-after → (answer ≡ Same) ↔ (says (g .entries) ≡ says (f .entries))
-  same-just-where s n t m x y g f answer x-after y-after h =
-      let ones = bits (form p s n x g) in
-      let others = bits (form p t m y f) in
-      let e : answer ≡ cond (same ones others) Same Other = alike-is answer _ (h .answers) ∙ ap alike (pair-is p s n t m x y g f) in
-      let d = by-same (same ones others) in
-      let q = same-says p (original p s n x g .telegram) (original p t m y f .telegram) in (
-        λ u. q .1 (same-true ones others (d .0 (sym e ∙ u))),
-        λ u. e ∙ d .1 (ap (same ones) (sym (q .0 u)) ∙ same-self ones),
       )

@@ -1,6 +1,4 @@
--- Demand 3, by the promises of `telegram` alone.
-pub mod Numbers
+-- What `renormalised` stands on, what the normaliser leaves, and that the promise determines it.
 pub mod Forms
-pub mod Pairs
 pub mod Left
 pub mod Once

@@ -1,2 +1,2 @@
--- What normalising twice promises, and comparing two normal forms.
+-- What normalising twice promises.
 pub mod Normals

@@ -1,18 +1,10 @@
-// Demand 3, by the promises of `telegram` alone: normalising again changes nothing, and two telegrams say the same exactly when their normal
-// forms have the same bits.
+// Demand 3, by the promise of `telegram::normalise` alone: normalising again changes nothing. That two telegrams say the same exactly when their normal
+// forms have the same bits is in `alike`.
 ghost use Rattle.format.specs.Rules.{paper};
-ghost use Rattle.normals.specs.Normals.{Renormalised, SaysSame, Ready};
+ghost use Rattle.normals.specs.Normals.{Renormalised};
 use format::Answer;
 use format::Kind;
 use format::Refusal;
-
-// Whether two telegrams say the same, or which of them is refused; the first comes first.
-pub enum Alike {
-    Same,
-    Other,
-    First(Refusal),
-    Second(Refusal),
-}
 
 // Writes the normal form of the telegram s of n bits into x, and the normal form of that into y: n, and the same again. A refusal leaves both as
 // they were: the room in y is tested before anything is stored, and a normal form is never refused.
@@ -30,45 +22,4 @@ pub fn renormalised(s: &[u8], n: usize, x: &mut [u8], y: &mut [u8]) -> Answer
         return a;
     };
     telegram::normalise(&x[..bits::bytes_for(m)], m, y)
-}
-
-// Whether the telegram s of n bits and the telegram t of m bits say the same: writes their normal forms into x and y, and compares these. A refusal
-// leaves both as they were: both rooms and both telegrams are tested before anything is stored.
-pub fn says_same(s: &[u8], n: usize, t: &[u8], m: usize, x: &mut [u8], y: &mut [u8]) -> Alike
-    ensures { λ r. ⌜ SaysSame paper (now (s .entry)) n (now (t .entry)) m (now (x .entry)) (now (y .entry)) r (now (x .exit)) (now (y .exit)) ⌝ }
-{
-    let none = Refusal {
-        kind: Kind::Room,
-        place: 0,
-    };
-    if x.len() < 104 {
-        return Alike::First(none);
-    }
-    if y.len() < 104 {
-        return Alike::Second(none);
-    }
-    if let Answer::Refused(r) = telegram::check(s, n) {
-        return Alike::First(r);
-    }
-    if let Answer::Refused(r) = telegram::check(t, m) {
-        return Alike::Second(r);
-    }
-    compared(s, n, t, m, x, y)
-}
-
-// The same of two telegrams that are accepted, with room for the normal forms of both.
-fn compared(s: &[u8], n: usize, t: &[u8], m: usize, x: &mut [u8], y: &mut [u8]) -> Alike
-    requires { ⌜ Ready paper (now s) n (now x) × Ready paper (now t) m (now y) ⌝ }
-    ensures { λ r. ⌜ SaysSame paper (now (s .entry)) n (now (t .entry)) m (now (x .entry)) (now (y .entry)) r (now (x .exit)) (now (y .exit)) ⌝ }
-{
-    telegram::normalise(s, n, x);
-    telegram::normalise(t, m, y);
-    if n != m {
-        return Alike::Other;
-    }
-    let k = bits::bytes_for(n);
-    if check::same(&x[..k], &y[..k]) {
-        return Alike::Same;
-    }
-    Alike::Other
 }

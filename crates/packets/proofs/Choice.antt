@@ -1,11 +1,10 @@
 -- An identifier that is none of the tables' has no packet, no row and no head. Assumes nothing.
 use mathlib.Core.Path.{_≡_, refl, sym, ap₂}
 use mathlib.Core.List.{List, [], _∷_}
-use mathlib.Core.Option.{none}
 use Prim.Native.Nat.{ℕ, _+_}
 use borrow.Author.Tests.{ne-eqb}
 use lib.ListN.{length}
-use Rattle.format.specs.Packets.{Packet, find, etcs, ctcs}
+use Rattle.format.specs.Packets.{Packet, etcs, ctcs}
 use Rattle.format.specs.Table.{rowsOf, startOf, packetStarts, etcsRow, ctcsRow, etcsFrom, ctcsFrom}
 use Rattle.format.specs.Kinds.{headOf, startsAt, etcsStart, ctcsStart}
 
@@ -23,11 +22,6 @@ after : (A : Type 0) (v : ℕ) (ps : List Packet) → AbsentAfter A v ps → A �
 after A v [] h = (h, tt)
 after A v (p ∷ ps) h =
     let r = after (A × (v ≡ p .id → ⊥)) v ps h in (r .0 .0, (r .0 .1, r .1))
-
-pub find-none : (v : ℕ) (ps : List Packet) → Absent v ps → find v ps ≡ none
-unfolding find
-find-none v [] h = refl
-find-none v (p ∷ ps) h = rw (ne-eqb v (p .id) (h .0)) (find-none v ps (h .1))
 
 row-none : (v i : ℕ) (ps : List Packet) → Absent v ps → startOf v (packetStarts i ps) ≡ 0
 unfolding startOf packetStarts

@@ -8,7 +8,10 @@ pub const OUTER_HEAD: usize = Default::HEAD;
 // NID_XUSER, Q_DIR and L_PACKET, of a CTCS packet: CTCS-5 has no Q_SCALE behind them.
 pub const INNER_HEAD: usize = Stopping::HEAD;
 
-// How many bits of its packet stand before an L_PACKET: NID_PACKET 8 or NID_XUSER 9, and Q_DIR 2. It is the last 13 bits of either head.
-pub const OUTER_L_PACKET: usize = OUTER_HEAD - 13;
+// The bits of an L_PACKET, which is the last field of either head.
+const L_PACKET: usize = 13;
 
-pub const INNER_L_PACKET: usize = INNER_HEAD - 13;
+// How many bits of its packet stand before an L_PACKET: NID_PACKET 8 or NID_XUSER 9, and Q_DIR 2.
+pub const OUTER_L_PACKET: usize = OUTER_HEAD - L_PACKET;
+
+pub const INNER_L_PACKET: usize = INNER_HEAD - L_PACKET;

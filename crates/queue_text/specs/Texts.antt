@@ -1,7 +1,8 @@
 -- Words and refusals as text. Definitions alone.
 use mathlib.Core.List.{List, [], _∷_, _++_}
 use Prim.Native.Nat.{ℕ}
-use Rattle.format.specs.Refusals.{numberOf}
+use Rattle.format.specs.Refusals.{inNumbers}
+use Rattle.format.specs.declared.Answer.the-variants.{Refused}
 use Rattle.format.specs.declared.Refusal.{Refusal}
 use Rattle.pieces.specs.Numbers.{decimal}
 
@@ -21,4 +22,4 @@ refusedWord = 114 ∷ 101 ∷ 102 ∷ 117 ∷ 115 ∷ 101 ∷ 100 ∷ 32 ∷ []
 
 -- "`refused NUMBER PLACE`"
 unfoldable pub refusalText : Refusal → List ℕ
-refusalText r = refusedWord ++ decimal (numberOf (r .kind)) ++ space ++ decimal (r .place) ++ newline
+refusalText r = refusedWord ++ decimal (inNumbers (Refused r) .0) ++ space ++ decimal (inNumbers (Refused r) .1) ++ newline

@@ -1,4 +1,4 @@
-// Runs each round trip of `again` and `normals` over a table of telegrams, first where there is too little room for its second step and then with room, and
+// Runs each round trip of `again`, `normals` and `alike` over a table of telegrams, first where there is too little room for its second step and then with room, and
 // prints what it answers and all that it leaves. What is lent is full of one number, so that whatever changes shows.
 mod show;
 
@@ -7,7 +7,7 @@ use show::compared;
 use show::run_and_bytes_left;
 
 // What is lent holds these numbers, which no telegram below has.
-const VALUE: u64 = 9999;
+pub(crate) const VALUE: u64 = 9999;
 
 const BYTE: u8 = 165;
 
@@ -98,8 +98,8 @@ fn compare(s: &[u8], t: &[u8]) {
     let mut x = [BYTE; 106];
     let mut y = [BYTE; 106];
     let mut less = [BYTE; 103];
-    let a = normals::says_same(s, 137, t, 137, &mut x, &mut less);
+    let a = alike::says_same(s, 137, t, 137, &mut x, &mut less);
     compared(b"says_same in 103 bytes:", a, &x, &less);
-    let b = normals::says_same(s, 137, t, 137, &mut x, &mut y);
+    let b = alike::says_same(s, 137, t, 137, &mut x, &mut y);
     compared(b"says_same:", b, &x, &y);
 }

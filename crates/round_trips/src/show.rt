@@ -1,8 +1,9 @@
 // What a round trip answers and leaves, as text.
+use crate::VALUE;
+use alike::Alike;
 use format::Answer;
 use format::Refusal;
 use libc::STDOUT_FILENO;
-use normals::Alike;
 
 pub(crate) fn run_and_bytes_left(name: &[u8], n: usize, a: Answer, run: &[u64], out: &[u8]) {
     named(name, n);
@@ -79,7 +80,7 @@ fn print_run(run: &[u64]) {
 }
 
 fn print_value(i: u64, v: u64) {
-    if v == 9999 {
+    if v == VALUE {
         return;
     }
     say(b" ");

@@ -30,7 +30,7 @@ use Rattle.laws.proofs.Refused.{Refused, Decides, read-decides}
 use Rattle.laws.proofs.Refused.Refused.{lacking, breaking, trailing, later}
 use Rattle.laws.proofs.Sources.{width-positive}
 use Rattle.laws.proofs.Tile.{Tiled, tiled, bitCounts}
-use Rattle.states.specs.Reader.{sized, clear, checked, readInto, answerOf}
+use Rattle.states.specs.Reader.{early, sized, clear, checked, readInto, answerOf}
 use Rattle.laws.proofs.Order.{of-value-number, onward-breaks, broken-of-value, ruleDue, notedAt}
 use Rattle.format.specs.declared.Answer.the-variants as Answers
 
@@ -102,10 +102,6 @@ pub clear-is : (s : List ℕ) (n : ℕ) → (clear s n ≡ true) ↔ Below 1 (dr
 clear-is s n =
     let z = value-zero (drop n (bitsOf s)) in
     (λ h. z .0 (eqb-true (valueOf (drop n (bitsOf s))) 0 h), λ h. eq-eqb (valueOf (drop n (bitsOf s))) 0 (z .1 h))
-
--- the refusals before the first field have the place 0
-abbrev pub early : Kind → Refusal
-early k = record { kind = k; place = 0 }
 
 -- what the check accepts: bytes and n of the right size, 0 in the unused bits, and the bits of a telegram before them
 pub record Sound (p : Terms) (s : List ℕ) (n : ℕ) (es : List Entry) : Type 0 where

@@ -7,10 +7,10 @@ use Prim.Native.Nat.{ℕ}
 use lib.Dec.{leb}
 use lib.ListN.{take}
 use Rattle.bits.specs.Bits.{bitsOf}
-use Rattle.format.specs.Refusals.{numberOf}
+use Rattle.format.specs.Refusals.{numberOf, inNumbers}
 use Rattle.format.specs.Rules.{State, Context, Terms}
 use Rattle.format.specs.Telegrams.{Result}
-use Rattle.format.specs.Telegrams.Result.{accepted, refused}
+use Rattle.format.specs.Telegrams.Result.{refused}
 use Rattle.format.specs.declared.Kind.{Kind}
 use Rattle.format.specs.declared.Kind.the-variants.{Room, Size, Padding}
 use Rattle.format.specs.declared.Refusal.{Refusal}
@@ -18,15 +18,14 @@ use Rattle.laws.proofs.Place.{Alike, read-alike, write-alike}
 use Rattle.laws.proofs.Place.Alike.{both-accepted, both-refused}
 use Rattle.states.specs.Labels.{labelInto, numbersOver}
 use Rattle.states.specs.Normaliser.{normalOf, normaliseInto}
-use Rattle.states.specs.Reader.{sized, clear, atOnce, checked, readInto, valuesOver}
+use Rattle.states.specs.Reader.{sized, clear, atOnce, checked, readInto, answerOf, valuesOver}
 use Rattle.states.specs.Writer.{writeInto, bytesOver}
 
 -- ---- what two answers that are alike have in common
 
 -- the number of a refusal, 0 where there is none
 abbrev pub numberIn : Result → ℕ
-numberIn (accepted es) = 0
-numberIn (refused r) = numberOf (r .kind)
+numberIn a = inNumbers (answerOf a) .0
 
 pub same-number : {a b : Result} → Alike a b → numberIn a ≡ numberIn b
 same-number both-accepted = refl

@@ -12,6 +12,7 @@ use Rattle.format.specs.Telegrams.{Entry, Result, read, values}
 use Rattle.format.specs.Telegrams.Result.{accepted, refused}
 use Rattle.format.specs.declared.Kind.{Kind}
 use Rattle.format.specs.declared.Kind.the-variants.{Room, Size, Padding}
+use Rattle.format.specs.declared.Refusal.{Refusal}
 use Rattle.format.specs.declared.Answer.{Answer}
 use Rattle.format.specs.declared.Answer.the-variants.{Accepted, Refused}
 
@@ -24,8 +25,11 @@ abbrev pub clear : List ℕ → ℕ → Bool
 clear s n = eqb (valueOf (drop n (bitsOf s))) 0
 
 -- "The place is 0 for 1, 2, 3"
+abbrev pub early : Kind → Refusal
+early k = record { kind = k; place = 0 }
+
 abbrev pub atOnce : Kind → Result
-atOnce k = refused (record { kind = k; place = 0 })
+atOnce k = refused (early k)
 
 -- what comes of a call that is lent room for so many and needs so many. "1: output shorter than .."; "Order: 1, then .."
 abbrev pub roomed : ℕ → ℕ → Result → Result

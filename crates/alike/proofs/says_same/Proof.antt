@@ -1,4 +1,4 @@
--- `normals::says_same` meets its contract: what refuses a telegram is found before anything is stored. Assumes nothing.
+-- `alike::says_same` meets its contract: what refuses a telegram is found before anything is stored. Assumes nothing.
 use mathlib.Core.Path.{sym, _∙_}
 use native.Mathlib.Omega.{arith}
 use borrow.Author.Needs.{needs}
@@ -7,9 +7,9 @@ use Rattle.format.specs.Rules.{paper}
 use Rattle.states.specs.Reader.{checked}
 use Rattle.format.proofs.Numbers.{answer-is}
 use Rattle.states.proofs.Answers.{answer-accepted, answer-refused}
-use Rattle.normals.proofs.Pairs.{no-room-for-first, no-room-for-other, first-refused, second-refused}
-use Rattle.normals.proofs.says_same.Statement.{statement}
-use Rattle.normals.proofs.says_same.Tie as tie
+use Rattle.alike.proofs.Pairs.{no-room-for-first, no-room-for-other, first-refused, second-refused}
+use Rattle.alike.proofs.says_same.Statement.{statement}
+use Rattle.alike.proofs.says_same.Tie as tie
 
 returns : tie.Need-returns
 returns c =

@@ -14,15 +14,17 @@ use Rattle.bits.proofs.Bytes.{take-bitsOf-bytesOf}
 use Rattle.format.specs.Rules.{Terms}
 use Rattle.format.specs.Telegrams.{Entry, bits}
 use Rattle.format.specs.Telegrams.Result.{accepted, refused}
+use Rattle.format.specs.declared.Kind.the-variants.{Room}
 use Rattle.format.specs.declared.Refusal.{Refusal}
 use Rattle.format.specs.declared.Answer.{Answer}
 use Rattle.laws.proofs.Demand2.{below-bits}
-use Rattle.states.specs.Reader.{checked}
+use Rattle.states.specs.Reader.{early, checked}
 use Rattle.states.specs.Normaliser.{Normalise}
-use Rattle.normals.specs.Normals.{pairInto, noRoom, SaysSame, Ready}
-use Rattle.normals.specs.Normals.Pair.{both}
-use Rattle.normals.specs.declared.Alike.the-variants.{Same, Other, First, Second}
+use Rattle.normals.specs.Normals.{Ready}
+use Rattle.alike.specs.Pairs.{pairInto, SaysSame}
+use Rattle.alike.specs.Pairs.Pair.{both}
+use Rattle.alike.specs.declared.Alike.the-variants.{Same, Other, First, Second}
 use Rattle.normals.proofs.Forms.{form, bits-long, holds, front}
 
 -- ---- lists compared
 
@@ -59,11 +61,11 @@ same-bytes bs cs b c l h =
 -- ---- one of the two is refused, or has no room
 
 module _ (p : Terms) (s : List ℕ) (n : ℕ) (t : List ℕ) (m : ℕ) (x y : List ℕ) where
-  pub no-room-for-first : length x < 104 → SaysSame p s n t m x y (First noRoom) x y
+  pub no-room-for-first : length x < 104 → SaysSame p s n t m x y (First (early Room)) x y
   no-room-for-first h = let f = lt-leb 104 (length x) h in record { answers = rw f; first = rw f; second = rw f }
 
   module _ (rx : 104 ≤ length x) where
-    pub no-room-for-other : length y < 104 → SaysSame p s n t m x y (Second noRoom) x y
+    pub no-room-for-other : length y < 104 → SaysSame p s n t m x y (Second (early Room)) x y
     no-room-for-other h =
         let f = le-leb 104 (length x) rx in
         let g = lt-leb 104 (length y) h in

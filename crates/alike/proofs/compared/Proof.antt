@@ -1,14 +1,14 @@
--- `normals::compared` meets its contract: normal forms of as many bits have the same bits just where they have the same bytes.
+-- `alike::compared` meets its contract: normal forms of as many bits have the same bits just where they have the same bytes.
 -- Assumes nothing.
 use mathlib.Core.Path.{sym}
 use borrow.Author.Needs.{needs}
 use denote.Ref.{now}
 use lib.Seq.{length-take-le}
 use Rattle.format.specs.Rules.{paper}
 use Rattle.normals.proofs.Forms.{lent-form}
-use Rattle.normals.proofs.Pairs.{other-size, found-same, found-other, unlike}
-use Rattle.normals.proofs.compared.Statement.{statement}
-use Rattle.normals.proofs.compared.Tie as tie
+use Rattle.alike.proofs.Pairs.{other-size, found-same, found-other, unlike}
+use Rattle.alike.proofs.compared.Statement.{statement}
+use Rattle.alike.proofs.compared.Tie as tie
 
 normalise-requires : tie.Need-normalise-requires
 normalise-requires c κs = search needs

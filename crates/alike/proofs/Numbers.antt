@@ -3,9 +3,9 @@ use mathlib.Core.Path.{_≡_, refl, ap}
 use Prim.Native.Nat.{ℕ}
 use native.Mathlib.Omega.{arith}
 use Rattle.format.proofs.Numbers.{refusal-is}
-use Rattle.normals.specs.Normals.{inNumbers}
-use Rattle.normals.specs.declared.Alike.{Alike}
-use Rattle.normals.specs.declared.Alike.the-variants.{Same, Other, First, Second}
+use Rattle.alike.specs.Pairs.{inNumbers}
+use Rattle.alike.specs.declared.Alike.{Alike}
+use Rattle.alike.specs.declared.Alike.the-variants.{Same, Other, First, Second}
 
 abbrev Numbers : Type 0
 Numbers = ℕ × ℕ × ℕ

@@ -1,0 +1,2 @@
+-- What comparing two telegrams promises.
+pub mod Pairs
