@@ -1,7 +1,7 @@
-//! What the proved library's round trips have to answer and to leave, over a table of telegrams
-//! and of lent lengths: read and written again, written and read again, normalised twice, and
-//! two telegrams compared by their normal forms. Every room is tested first, and a refusal
-//! leaves everything lent as it was.
+//! What the proved library's round trips have to answer and to leave: read and written again,
+//! written and read again, normalised twice, and two telegrams compared by their normal forms;
+//! each first where there is too little room for the second step, and then with room. Every
+//! room is tested first, and a refusal leaves everything lent as it was.
 
 use plain::{check, normalise, read, write, Refusal, MAX_BYTES, MAX_VALUES};
 
@@ -10,12 +10,16 @@ const VALUE: u64 = 9_999;
 const BYTE: u8 = 165;
 
 const MARK: &[u8] = b"\x90\x02\x7f\x81\x25\xdf\xff\xc0";
-const UNCLEAR: &[u8] = b"\x90\x02\x7f\x81\x25\xdf\xff\xc1";
+const UNCLEAR_MARK: &[u8] = b"\x90\x02\x7f\x81\x25\xdf\xff\xc1";
 const STOP: &[u8] =
     b"\x90\x02\x7f\x81\x25\xdf\xcb\x10\x18\x01\x50\x0c\xa1\x10\x0c\x22\x50\x0c\x3f\xc0";
 const TENS: &[u8] = b"\x90\x02\x7f\x81\x25\xdf\xcb\x10\x27\x80\xd0\x1c\x40\x0c\x80\xc8\x7f\x80";
 const METRES: &[u8] = b"\x90\x02\x7f\x81\x25\xdf\xcb\x10\x27\x80\xd0\x1c\x20\x7d\x07\xd0\x7f\x80";
 const FURTHER: &[u8] = b"\x90\x02\x7f\x81\x25\xdf\xcb\x10\x27\x80\xd0\x1c\x20\x7d\x47\xd0\x7f\x80";
+const UNCLEAR: &[u8] = b"\x90\x02\x7f\x81\x25\xdf\xcb\x10\x27\x80\xd0\x1c\x20\x7d\x47\xd0\x7f\x81";
+
+/// The bits of the last four.
+const LONG: u64 = 137;
 
 const VALUES: [u64; 12] = [1, 16, 0, 0, 1, 0, 255, 9, 3007, 1, 255, 0];
 
@@ -27,128 +31,101 @@ fn main() {
 }
 
 fn rewrites() {
-    for (s, n, values, bytes) in [
-        (MARK, 58, 832, 106),
-        (MARK, 58, 830, 104),
-        (MARK, 58, 830, 103),
-        (MARK, 58, 829, 104),
-        (MARK, 58, 0, 0),
-        (UNCLEAR, 58, 832, 106),
-        (UNCLEAR, 58, 830, 103),
-        (MARK, 59, 832, 106),
-        (STOP, 154, 832, 106),
-        (STOP, 154, 832, 103),
-        (b"".as_slice(), u64::MAX, 832, 106),
+    let none: &[u8] = b"";
+    for (s, n) in [
+        (MARK, 58),
+        (UNCLEAR_MARK, 58),
+        (MARK, 59),
+        (none, u64::MAX),
+        (STOP, 154),
     ] {
-        print!("rewritten of {n}, lent {values} and {bytes}:");
-        let (mut run, mut out) = ([VALUE; 832], [BYTE; 106]);
-        let answer = roomed(values, bytes, || {
-            let count = read(s, n, &mut run)?;
-            write(&run[..count], &mut out)
-        });
-        show(answer);
-        show_run(&run);
-        show_bytes(&out);
+        for (name, bytes) in [("rewritten in 103 bytes", 103), ("rewritten", 106)] {
+            let (mut run, mut out) = ([VALUE; 832], vec![BYTE; bytes]);
+            let answer = roomed(run.len(), bytes, || {
+                let count = read(s, n, &mut run)?;
+                write(&run[..count], &mut out)
+            });
+            print!("{name} of {n}:");
+            show(answer);
+            show_run(&run);
+            show_bytes(&out);
+        }
     }
 }
 
 fn rereads() {
     let mut version = VALUES;
     version[1] = 33;
-    for (list, bytes, values) in [
-        (&VALUES[..11], 106, 832),
-        (&VALUES[..11], 104, 830),
-        (&VALUES[..11], 104, 829),
-        (&VALUES[..11], 103, 830),
-        (&version[..11], 106, 832),
-        (&version[..11], 106, 829),
-        (&VALUES[..10], 106, 832),
-        (&VALUES[..12], 106, 832),
-        (&VALUES[..12], 0, 0),
-    ] {
-        print!("reread of {}, lent {bytes} and {values}:", list.len());
-        let (mut run, mut out) = ([VALUE; 832], [BYTE; 106]);
-        let answer = roomed(values, bytes, || {
-            let n = write(list, &mut out)?;
-            let long = n.div_ceil(8) as usize;
-            Ok(read(&out[..long], n, &mut run)? as u64)
-        });
-        show(answer);
-        show_bytes(&out);
-        show_run(&run);
+    for list in [&VALUES[..11], &version[..11], &VALUES[..10], &VALUES[..12]] {
+        for (name, values) in [("reread in 829 values", 829), ("reread", 832)] {
+            let (mut run, mut out) = (vec![VALUE; values], [BYTE; 106]);
+            let answer = roomed(values, out.len(), || {
+                let n = write(list, &mut out)?;
+                let long = n.div_ceil(8) as usize;
+                Ok(read(&out[..long], n, &mut run)? as u64)
+            });
+            print!("{name} of {}:", list.len());
+            show(answer);
+            show_run(&run);
+            show_bytes(&out);
+        }
     }
 }
 
 fn renormalises() {
-    for (n, first, second) in [
-        (137, 106, 106),
-        (137, 104, 104),
-        (137, 104, 103),
-        (137, 103, 104),
-        (136, 106, 106),
-        (138, 106, 106),
-        (138, 106, 103),
-    ] {
-        print!("renormalised of {n}, lent {first} and {second}:");
-        let (mut x, mut y) = ([BYTE; 106], [BYTE; 106]);
-        let answer = roomed(MAX_VALUES, first.min(second), || {
-            normalise(TENS, n, &mut x)?;
-            normalise(&x[..TENS.len()], n, &mut y)?;
-            Ok(n)
-        });
-        show(answer);
-        show_bytes(&x);
-        show_bytes(&y);
+    for n in [LONG, LONG - 1, LONG + 1] {
+        for (name, bytes) in [("renormalised in 103 bytes", 103), ("renormalised", 106)] {
+            let (mut x, mut y) = ([BYTE; 106], vec![BYTE; bytes]);
+            let answer = roomed(MAX_VALUES, bytes, || {
+                normalise(TENS, n, &mut x)?;
+                normalise(&x[..TENS.len()], n, &mut y)?;
+                Ok(n)
+            });
+            print!("{name} of {n}:");
+            show(answer);
+            show_bytes(&x);
+            show_bytes(&y);
+        }
     }
 }
 
 fn compares() {
-    for (s, n, t, m, first, second) in [
-        (TENS, 137, METRES, 137, 106, 106),
-        (TENS, 137, FURTHER, 137, 106, 106),
-        (METRES, 137, MARK, 58, 104, 104),
-        (TENS, 137, METRES, 138, 106, 106),
-        (TENS, 138, METRES, 137, 106, 106),
-        (TENS, 57, METRES, 138, 106, 106),
-        (TENS, 57, METRES, 138, 103, 103),
-        (TENS, 57, METRES, 138, 104, 103),
-        (TENS, 137, METRES, 137, 103, 104),
+    for (s, t) in [
+        (TENS, METRES),
+        (TENS, FURTHER),
+        (TENS, UNCLEAR),
+        (UNCLEAR, TENS),
+        (UNCLEAR, UNCLEAR),
     ] {
-        print!("says_same of {n}, lent {first} and {second}:");
-        let (mut x, mut y) = ([BYTE; 106], [BYTE; 106]);
-        let rooms = [
-            roomed(MAX_VALUES, first, || Ok(0)),
-            roomed(MAX_VALUES, second, || Ok(0)),
-        ];
-        match rooms {
-            [Err(refusal), _] => {
-                print!(" first");
-                show(Err(refusal));
-            }
-            [_, Err(refusal)] => {
-                print!(" second");
-                show(Err(refusal));
-            }
-            _ => match (check(s, n), check(t, m)) {
-                (Err(refusal), _) => {
-                    print!(" first");
-                    show(Err(refusal));
-                }
-                (_, Err(refusal)) => {
-                    print!(" second");
-                    show(Err(refusal));
-                }
-                _ => {
-                    let both = normalise(s, n, &mut x).and_then(|()| normalise(t, m, &mut y));
-                    assert!(both.is_ok(), "what is accepted has a normal form");
-                    let same = n == m && x == y;
-                    println!("{}", if same { " same" } else { " other" });
-                }
-            },
+        for (name, bytes) in [("says_same in 103 bytes", 103), ("says_same", 106)] {
+            let (mut x, mut y) = ([BYTE; 106], vec![BYTE; bytes]);
+            print!("{name}:");
+            compare(s, t, &mut x, &mut y);
+            show_bytes(&x);
+            show_bytes(&y);
         }
-        show_bytes(&x);
-        show_bytes(&y);
     }
+}
+
+/// Both rooms, then both telegrams, and then their normal forms.
+fn compare(s: &[u8], t: &[u8], x: &mut [u8], y: &mut [u8]) {
+    let first = roomed(MAX_VALUES, x.len(), || Ok(0));
+    let second = roomed(MAX_VALUES, y.len(), || Ok(0));
+    let answers = [
+        ("first", first),
+        ("second", second),
+        ("first", check(s, LONG).map(|_| 0)),
+        ("second", check(t, LONG).map(|_| 0)),
+    ];
+    for (which, answer) in answers {
+        if answer.is_err() {
+            print!(" {which}");
+            return show(answer);
+        }
+    }
+    let both = normalise(s, LONG, x).and_then(|()| normalise(t, LONG, y));
+    assert!(both.is_ok(), "what is accepted has a normal form");
+    println!("{}", if x == y { " same" } else { " other" });
 }
 
 /// What a call answers that is lent so many values and bytes: nothing is done where one is short.
