@@ -3,7 +3,8 @@ ghost use Rattle.blocks.specs.Reading.{Within};
 use crate::Filled;
 use libc::STDIN_FILENO;
 
-// Reads into the front of the buffer until it is full or the input ends.
+// Reads into the front of the buffer until it is full or the input ends. Where a read fails, what the reads before it brought is left there: no program
+// looks at it.
 pub fn fill(buffer: &mut [u8]) -> Filled
     ensures { λ r. ⌜ Within (now (buffer .exit)) r ⌝ }
 {
