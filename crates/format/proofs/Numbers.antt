@@ -1,8 +1,11 @@
 -- An answer is known by this paper's number and value of it: no two answers have the same. Assumes nothing.
+use mathlib.Core.Bool.{true}
 use mathlib.Core.List.{[], _∷_}
 use mathlib.Core.Path.{_≡_, refl, sym, ap, ap₂, _∙_}
 use Prim.Native.Nat.{ℕ, _≤_}
 use native.Mathlib.Omega.{arith}
+use borrow.Author.Tests.{leb-true}
+use lib.Dec.{leb}
 use lib.ListN.{getD}
 use Rattle.format.specs.Refusals.{numberOf, inNumbers}
 use Rattle.format.specs.declared.Answer.{Answer}
@@ -12,20 +15,23 @@ use Rattle.format.specs.declared.Kind.the-variants.{Room, Size, Padding,
 use Rattle.format.specs.declared.Refusal.{Refusal}
 
 -- the numbers of refusals are 1 to 13; 0 is no refusal's
+in-range : (k : Kind) → (leb 1 (numberOf k) ≡ true) × (leb (numberOf k) 13 ≡ true)
+in-range Room = (refl, refl)
+in-range Size = (refl, refl)
+in-range Padding = (refl, refl)
+in-range Header = (refl, refl)
+in-range Ended = (refl, refl)
+in-range Unknown = (refl, refl)
+in-range Value = (refl, refl)
+in-range Length = (refl, refl)
+in-range Direction = (refl, refl)
+in-range Repeated = (refl, refl)
+in-range Trailing = (refl, refl)
+in-range Wide = (refl, refl)
+in-range Full = (refl, refl)
+
 pub number-in : (k : Kind) → (1 ≤ numberOf k) × (numberOf k ≤ 13)
-number-in Room = (omega arith, omega arith)
-number-in Size = (omega arith, omega arith)
-number-in Padding = (omega arith, omega arith)
-number-in Header = (omega arith, omega arith)
-number-in Ended = (omega arith, omega arith)
-number-in Unknown = (omega arith, omega arith)
-number-in Value = (omega arith, omega arith)
-number-in Length = (omega arith, omega arith)
-number-in Direction = (omega arith, omega arith)
-number-in Repeated = (omega arith, omega arith)
-number-in Trailing = (omega arith, omega arith)
-number-in Wide = (omega arith, omega arith)
-number-in Full = (omega arith, omega arith)
+number-in k = (leb-true 1 (numberOf k) (in-range k .0), leb-true (numberOf k) 13 (in-range k .1))
 
 -- a kind is known by its number
 kindOf : ℕ → Kind

@@ -10,6 +10,7 @@ use format::Kind;
 use format::Spot;
 use packets::heads::INNER_L_PACKET;
 use packets::heads::OUTER_L_PACKET;
+use refusals::number;
 use states::Level;
 use states::State;
 use states::codes::DIRECTION;
@@ -18,7 +19,6 @@ use states::codes::PIG;
 use states::codes::SIZE;
 use states::codes::USER;
 use std::num::wrapping_add_usize;
-use table::number;
 
 // ---- what a value leaves for later rules
 

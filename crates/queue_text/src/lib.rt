@@ -39,7 +39,7 @@ pub fn refused(out: &mut [u8], q: Queue, refusal: Refusal) -> Queue
 {
     let kind = refusal.kind;
     let a = queue::say(out, q, b"refused ");
-    let b = number(out, a, table::number(kind));
+    let b = number(out, a, refusals::number(kind));
     let c = queue::put(out, b, b' ');
     let d = number(out, c, refusal.place as u64);
     queue::put(out, d, b'\n')

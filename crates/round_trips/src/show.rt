@@ -63,7 +63,7 @@ fn alike(a: Alike) {
 fn refused(text: &[u8], r: Refusal) {
     let kind = r.kind;
     say(text);
-    number(table::number(kind));
+    number(refusals::number(kind));
     say(b" ");
     number(r.place as u64);
     say(b"\n");

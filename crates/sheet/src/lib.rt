@@ -30,7 +30,7 @@ pub fn number(reply: Reply) -> u64
         Reply::Done(_) => 0,
         Reply::Refused(r) => {
             let kind = r.kind;
-            table::number(kind)
+            refusals::number(kind)
         }
         Reply::Row(_) => 20,
     }

@@ -30,7 +30,7 @@ fn code(a: Answer) -> u64
         Answer::Accepted(_) => 0,
         Answer::Refused(r) => {
             let kind = r.kind;
-            1024 * table::number(kind) + r.place as u64
+            1024 * refusals::number(kind) + r.place as u64
         }
     }
 }

@@ -9,7 +9,6 @@ use Rattle.table.proofs.ranges.low
 use Rattle.table.proofs.ranges.high
 use Rattle.table.proofs.numbers.fields
 use Rattle.table.proofs.numbers.named
-use Rattle.table.proofs.numbers.number
 
 pub rows-once : OneOutcome rows.ended rows.Reads.Post
 rows-once κs args r t u v p q = (p ∙ sym q, refl)
@@ -34,6 +33,3 @@ fields-once κs args r t u v p q = (p ∙ sym q, refl)
 
 pub named-once : OneOutcome named.ended named.Reads.Post
 named-once κs args r t u v p q = (p ∙ sym q, refl)
-
-pub number-once : OneOutcome number.ended number.Reads.Post
-number-once κs args r t u v p q = (p ∙ sym q, refl)

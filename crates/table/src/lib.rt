@@ -10,9 +10,9 @@ pub use jumps::back;
 pub use jumps::leap;
 pub use numbers::fields;
 pub use numbers::named;
-pub use numbers::number;
 pub use ranges::high;
 pub use ranges::low;
+pub use refusals::number;
 
 // From the lowest bit: 3 bits of the act, 7 of the field's width and 6 of the rest: the number of the field's rule, or how far the row
 // jumps. Nobody has to read them: the checker computes that they are what the items of the packets give. Whoever checks a telegram has this

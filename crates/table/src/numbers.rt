@@ -1,32 +1,9 @@
-// The paper's numbers: of the field that each row sends, and of a refusal.
+// The number of the field that each row sends.
 ghost use mathlib.Core.Path.{_≡_};
-ghost use Rattle.format.specs.Refusals.{numberOf};
 ghost use Rattle.format.specs.Table.{fieldNumbers, numberBy};
-use format::Kind;
 
 // The number of the end mark's field.
 const MARK: u8 = 71;
-
-// Document 01's number of a refusal.
-pub fn number(kind: Kind) -> u64
-    ensures { λ r. ⌜ r ≡ numberOf kind ⌝ }
-{
-    match kind {
-        Kind::Room => 1,
-        Kind::Size => 2,
-        Kind::Padding => 3,
-        Kind::Header => 4,
-        Kind::Ended => 5,
-        Kind::Unknown => 6,
-        Kind::Value => 7,
-        Kind::Length => 8,
-        Kind::Direction => 9,
-        Kind::Repeated => 10,
-        Kind::Trailing => 11,
-        Kind::Wide => 12,
-        Kind::Full => 13,
-    }
-}
 
 // The field that each row of the table sends, by its number in specs/Fields.antt of `format`. At an end the number is NID_PACKET's, which is
 // due there between packets (the machine never stands at a group's end), and in place of the CTCS packet NID_XUSER's.
