@@ -2,14 +2,10 @@
 use mathlib.Core.Path.{refl, sym, _∙_}
 use Rattle.bits.proofs.Once.{OneOutcome}
 use Rattle.lookback.proofs.collides_in_bits
-use Rattle.lookback.proofs.exempt
 use Rattle.lookback.proofs.row_meets
 
 pub collides-once : OneOutcome collides_in_bits.ended collides_in_bits.Reads.Post
 collides-once κs args r t u v p q = (p ∙ sym q, refl)
-
-pub exempt-once : OneOutcome exempt.ended exempt.Reads.Post
-exempt-once κs args r t u v p q = (p ∙ sym q, refl)
 
 pub row-meets-once : OneOutcome row_meets.ended row_meets.Reads.Post
 row-meets-once κs args r t u v p q = (p ∙ sym q, refl)

@@ -6,7 +6,6 @@ use Rattle.states.specs.declared.View.{View}
 use Rattle.states.specs.declared.View.the-variants.{Kept, Scales, Measures}
 use Rattle.short.proofs.size.sized
 use Rattle.short.proofs.size.fitting
-use Rattle.short.proofs.front.header
 use Rattle.short.proofs.unread
 use Rattle.short.proofs.slight
 use Rattle.short.proofs.views.counts
@@ -16,9 +15,6 @@ sized-once κs args r t u v p q = (p ∙ sym q, refl)
 
 pub fitting-once : OneOutcome fitting.ended fitting.Reads.Post
 fitting-once κs args r t u v p q = (p ∙ sym q, refl)
-
-pub header-once : OneOutcome header.ended header.Reads.Post
-header-once κs args r t u v p q = (p ∙ sym q, refl)
 
 pub unread-once : OneOutcome unread.ended unread.Reads.Post
 unread-once κs args r t u v p q = (p ∙ sym q, refl)

@@ -1,14 +1,11 @@
 // The short ways: which fields need not be read, and which values need nothing of where a telegram stands. Both go by the rest of a row, as
-// `table` packs it. Beside them the header at once (`front`), how a field counts (`views`) and how long a telegram and a value may be (`size`),
-// which need no table.
+// `table` packs it. Beside them how a field counts (`views`) and how long a telegram and a value may be (`size`), which need no table.
 ghost use mathlib.Core.Path.{_≡_};
 ghost use Rattle.states.specs.Machine.{unread, slight};
 
-mod front;
 mod size;
 mod views;
 
-pub use front::header;
 pub use size::fitting;
 pub use size::sized;
 use states::codes::SEND;

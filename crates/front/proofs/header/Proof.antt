@@ -1,11 +1,11 @@
--- `short::header` meets its contract: each test is one of the definition's. Assumes nothing.
+-- `front::header` meets its contract: each test is one of the definition's. Assumes nothing.
 use mathlib.Core.Path.{_≡_, sym, _∙_}
 use native.Mathlib.Omega.{arith}
 use borrow.Author.Needs.{needs}
 use Rattle.bits.proofs.Fields.{taken, skipped}
 use Rattle.states.proofs.Front.{front-short, front-lacking, front-other, front-above, front-double, front-whole}
-use Rattle.short.proofs.front.header.Statement.{statement}
-use Rattle.short.proofs.front.header.Tie as tie
+use Rattle.front.proofs.header.Statement.{statement}
+use Rattle.front.proofs.header.Tie as tie
 
 take-requires : tie.Need-take-requires
 take-requires c κs = search needs

@@ -1,9 +1,9 @@
--- `lookback::meets` meets its contract: one test after the other. Assumes nothing.
+-- `clashes::meets` meets its contract: one test after the other. Assumes nothing.
 use native.Mathlib.Omega.{arith}
 use borrow.Author.Needs.{needs}
 use borrow.Author.Tests.{eq-eqb, ne-eqb}
-use Rattle.lookback.proofs.meets.Statement.{statement}
-use Rattle.lookback.proofs.meets.Tie as tie
+use Rattle.clashes.proofs.meets.Statement.{statement}
+use Rattle.clashes.proofs.meets.Tie as tie
 
 returns : tie.Need-returns
 returns c = simp (ne-eqb (c .before .args .id) (c .before .args .name) (λ e. omega (arith, c .if1 .taken)))

@@ -1,11 +1,11 @@
--- `lookback::directions_collide` meets its contract: one test after the other. Assumes nothing.
+-- `clashes::directions_collide` meets its contract: one test after the other. Assumes nothing.
 use mathlib.Core.Bool.{or-true, or-false}
 use mathlib.Core.Path.{sym}
 use borrow.Author.Tests.{eq-eqb, ne-eqb}
 use lib.Dec.{eqb}
 use Rattle.format.specs.Rules.{clash}
-use Rattle.lookback.proofs.directions_collide.Statement.{statement}
-use Rattle.lookback.proofs.directions_collide.Tie as tie
+use Rattle.clashes.proofs.directions_collide.Statement.{statement}
+use Rattle.clashes.proofs.directions_collide.Tie as tie
 
 returns : tie.Need-returns
 unfolding clash
