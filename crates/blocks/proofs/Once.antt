@@ -1,5 +1,4 @@
--- The promise of `start` is met by one answer alone. That of `next` is met by one outcome alone where the outside brings the same. `fill` promises
--- only that no more was read than there is room for: what is read hangs on the outside. Assumes nothing.
+-- The promise of `start` is met by one answer alone. That of `next` is met by one outcome alone where the outside brings the same. Assumes nothing.
 use mathlib.Core.Path.{_≡_, refl, sym, ap, ap₂, _∙_}
 use mathlib.Core.Bool.{Bool, true, false}
 use mathlib.Core.List.{List}

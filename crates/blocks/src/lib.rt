@@ -8,7 +8,6 @@ ghost use Rattle.blocks.specs.Reading.{nothing, stopped, Keeps, Held, Ta
 mod reads;
 
 use crate::reads::read;
-pub use reads::fill;
 use word64::lower;
 
 // How many bytes were read, or that a read failed.

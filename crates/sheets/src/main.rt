@@ -6,7 +6,7 @@ mod answer;
 use crate::answer::from_start_of_line;
 use crate::answer::from_start_of_sheet;
 use blocks::Filled;
-use blocks::fill;
+use filling::fill;
 use libc::STDERR_FILENO;
 use libc::STDOUT_FILENO;
 

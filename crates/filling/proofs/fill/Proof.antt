@@ -1,4 +1,4 @@
--- `blocks::reads::fill` meets its contract. The loop's invariant: n bytes lie within the buffer. The measure is how many more it can take;
+-- `filling::fill` meets its contract. The loop's invariant: n bytes lie within the buffer. The measure is how many more it can take;
 -- a read of more than none makes it less. Assumes nothing.
 use mathlib.Core.Path.{_≡_, refl, sym, _∙_}
 use Prim.Native.Nat.{_≤_, _<_, _+_, _-_}
@@ -7,8 +7,8 @@ use denote.Ref.{now}
 use lib.Arith.{lt-of-le-ne}
 use lib.ListN.{length}
 use borrow.Author.Needs.{needs}
-use Rattle.blocks.proofs.reads.fill.Statement.{statement}
-use Rattle.blocks.proofs.reads.fill.Tie as tie
+use Rattle.filling.proofs.fill.Statement.{statement}
+use Rattle.filling.proofs.fill.Tie as tie
 
 abbrev Inv-loop : tie.InvT-loop
 Inv-loop buffer₀ n₀ buffer n = (n ≤ length buffer₀) × (length buffer ≡ length buffer₀)
