@@ -1,5 +1,5 @@
 // The types that document 01's definitions speak of: the refusals, the answers that carry them, and where a packet begins. The definitions
-// are under specs/, and the code that computes them in the crates `table` and `packets`.
+// are under specs/, and the code that computes them in the crates `packets`, `refusals`, `table` and `clashes`.
 
 // The kinds of refusal; `numberOf` in specs/Refusals.antt gives document 01's number of each.
 pub enum Kind {

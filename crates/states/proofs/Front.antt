@@ -1,4 +1,4 @@
--- The header's answer, by the tests that `short::header` makes; and that the state which is answered is that behind a header which keeps every
+-- The header's answer, by the tests that `front::header` makes; and that the state which is answered is that behind a header which keeps every
 -- rule. Assumes nothing.
 use mathlib.Core.Path.{_≡_, refl, ap, _∙_}
 use mathlib.Core.List.{List}
