@@ -51,15 +51,15 @@ module _ (p : Terms) (s : List ℕ) (n : ℕ) (run out : List ℕ) where
       let f = without-room 104 (length out) afterRead h in
       record { answers = rw f; values = rw f; telegram = rw f }
 
-  module _ (run-after : List ℕ) (room : 104 ≤ length out) where
-    as-read : rewriteInto p s n (length run) (length out) ≡ afterRead
-    as-read = with-room 104 (length out) afterRead room
+  as-read : 104 ≤ length out → rewriteInto p s n (length run) (length out) ≡ afterRead
+  as-read room = with-room 104 (length out) afterRead room
 
+  module _ (run-after : List ℕ) (room : 104 ≤ length out) where
     pub read-refused : {a : Answer} {r : Refusal} → Read p s n run a run-after → a ≡ Refused r → Rewritten p s n run out a run-after out
     read-refused {a} {r} h e =
         let f : afterRead ≡ refused r = answer-refused afterRead r .0 (sym e ∙ read-answer h) in
-        let g = as-read ∙ f in
-        record { answers = rw g (ap inNumbers e); values = rw as-read (h .contents); telegram = rw g }
+        let g = as-read room ∙ f in
+        record { answers = rw g (ap inNumbers e); values = rw (as-read room) (h .contents); telegram = rw g }
 
     module _ {a : Answer} {count : ℕ} (h : Read p s n run a run-after) (e : a ≡ Accepted count) where
       -- the values that were read are there to be lent
@@ -72,13 +72,13 @@ module _ (p : Terms) (s : List ℕ) (n : ℕ) (run out : List ℕ) where
           let g = read-stores h e in
           let es = g .entries in
           let j = g .such in
-          let k = as-read ∙ reads p s n run es j (g .room) in
+          let k = as-read room ∙ reads p s n run es j (g .room) in
           let size : bitCount es ≡ n = sym (length-bits es) ∙ sent p s n es j in
           let v : Write p (values es) out b out-after = rw (stored-front g count refl) at w in
           let i = then-written p (j .telegram) (length out) room in
           record {
             answers = rw k (v .answers ∙ rw (i, size));
-            values = rw as-read (h .contents);
+            values = rw (as-read room) (h .contents);
             telegram = rw k (v .contents ∙ rw (i, same-bytes p s n es j bytes));
           }
 
@@ -93,15 +93,15 @@ module _ (p : Terms) (vs out run : List ℕ) where
       let f = without-room 830 (length run) afterWrite h in
       record { answers = rw f; telegram = rw f; values = rw f }
 
-  module _ (out-after : List ℕ) (room : 830 ≤ length run) where
-    as-written : rereadInto p vs (length out) (length run) ≡ afterWrite
-    as-written = with-room 830 (length run) afterWrite room
+  as-written : 830 ≤ length run → rereadInto p vs (length out) (length run) ≡ afterWrite
+  as-written room = with-room 830 (length run) afterWrite room
 
+  module _ (out-after : List ℕ) (room : 830 ≤ length run) where
     pub write-refused : {a : Answer} {r : Refusal} → Write p vs out a out-after → a ≡ Refused r → Reread p vs out run a out-after run
     write-refused {a} {r} h e =
         let f : afterWrite ≡ refused r = was-refused bitCount afterWrite a r (write-answer h) e in
-        let g = as-written ∙ f in
-        record { answers = rw g (ap inNumbers e); telegram = rw as-written (h .contents); values = rw g }
+        let g = as-written room ∙ f in
+        record { answers = rw g (ap inNumbers e); telegram = rw (as-written room) (h .contents); values = rw g }
 
     module _ {a : Answer} {n : ℕ} (h : Write p vs out a out-after) (e : a ≡ Accepted n) where
       -- the bytes that were written are there to be lent
@@ -116,9 +116,9 @@ module _ (p : Terms) (vs out run : List ℕ) where
           let t = g .such in
           let i = then-read p (t .0) n (length run) (t .2) room in
           let v : Read p (bytesOf (bits es)) n run b run-after = rw (stored-front g k m) at r in
-          let f = as-written ∙ ap (λ (us : List ℕ). writeInto p us (length out)) (t .1) ∙ then-written p (t .0) (length out) (g .room) in
+          let f = as-written room ∙ ap (λ (us : List ℕ). writeInto p us (length out)) (t .1) ∙ then-written p (t .0) (length out) (g .room) in
           record {
             answers = rw (f, t .1) (v .answers ∙ rw i);
-            telegram = rw as-written (h .contents);
+            telegram = rw (as-written room) (h .contents);
             values = rw (f, t .1) (v .contents ∙ rw i);
           }

@@ -10,7 +10,7 @@ use Rattle.alike.specs.declared.Alike.the-variants.{Same, Other, First, 
 abbrev Numbers : Type 0
 Numbers = ℕ × ℕ × ℕ
 
-which : {x y : Numbers} → x ≡ y → x .0 ≡ y .0
+pub which : {x y : Numbers} → x ≡ y → x .0 ≡ y .0
 which h = ap (λ (x : Numbers). x .0) h
 
 number : {x y : Numbers} → x ≡ y → x .1 ≡ y .1

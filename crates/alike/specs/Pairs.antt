@@ -13,7 +13,7 @@ use Rattle.format.specs.Telegrams.{Entry, Result, bits}
 use Rattle.format.specs.Telegrams.Result.{accepted, refused}
 use Rattle.format.specs.declared.Kind.the-variants.{Room}
 use Rattle.format.specs.declared.Refusal.{Refusal}
-use Rattle.states.specs.Reader.{early, checked}
+use Rattle.states.specs.Reader.{bytesNeeded, early, checked}
 use Rattle.states.specs.Writer.{bytesOver}
 use Rattle.alike.specs.declared.Alike.{Alike}
 use Rattle.alike.specs.declared.Alike.the-variants.{Same, Other, First, Second}
@@ -31,7 +31,8 @@ pairOf (refused r) b = first r
 
 -- lent so many bytes for each normal form. "Order: 1, then .."
 abbrev pub pairInto : Terms → List ℕ → ℕ → List ℕ → ℕ → ℕ → ℕ → Pair
-pairInto p s n t m x y = cond (leb 104 x) (cond (leb 104 y) (pairOf (checked p s n) (checked p t m)) (second (early Room))) (first (early Room))
+pairInto p s n t m x y =
+    cond (leb bytesNeeded x) (cond (leb bytesNeeded y) (pairOf (checked p s n) (checked p t m)) (second (early Room))) (first (early Room))
 
 -- whether the two normal forms have the same bits, or which telegram is refused
 abbrev pub alike : Pair → Alike

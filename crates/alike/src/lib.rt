@@ -6,7 +6,7 @@ use format::Answer;
 use format::Kind;
 use format::Refusal;
 
-// Whether two telegrams say the same, or which of them is refused; the first comes first.
+// Whether two telegrams say the same, or which of them is refused. Too little room comes before all else; of two alike the first comes first.
 pub enum Alike {
     Same,
     Other,

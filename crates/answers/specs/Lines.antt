@@ -8,12 +8,12 @@ use Rattle.format.specs.Rules.{paper}
 use Rattle.format.specs.declared.Kind.the-variants.{Size}
 use Rattle.format.specs.declared.Answer.{Answer}
 use Rattle.format.specs.declared.Answer.the-variants.{Refused}
-use Rattle.states.specs.Reader.{checked, answerOf}
+use Rattle.states.specs.Reader.{early, checked, answerOf}
 use Rattle.packing.specs.Packing.{binary, bitsIn}
 
 -- "A line with another character .. gives `refused 2 0`"
 abbrev pub noTelegram : Answer
-noTelegram = Refused (record { kind = Size; place = 0 })
+noTelegram = Refused (early Size)
 
 -- "one telegram a line as characters 0 and 1"
 unfoldable pub answerTo : List ℕ → Answer

@@ -20,7 +20,7 @@ pub data Claim : Type 0 where
   reads : List ℕ → ℕ → List ℕ → ℕ → Claim
   -- they are refused, with this number and place
   refuses : List ℕ → ℕ → ℕ → ℕ → Claim
-  -- the values are one packet, of so many bits; with the header and the end mark it is accepted
+  -- the values are a packet, and with the header and the end mark they are accepted: it takes so many bits
   takes : List ℕ → ℕ → Claim
   -- they are packets; with the header and the end mark they are accepted, of so many bits
   fills : List ℕ → ℕ → Claim

@@ -3,7 +3,7 @@ use mathlib.Core.Bool.{Bool, true, false, cond, _&&_}
 use mathlib.Core.List.{List, [], _∷_}
 use Prim.Native.Nat.{ℕ, _%_, _^_}
 use lib.Dec.{eqb, ltb}
-use Rattle.distance.specs.Steps.{decimetres, steps}
+use Rattle.distance.specs.Steps.{step, decimetres, steps}
 use Rattle.format.specs.Fields.{Field, Sense}
 use Rattle.format.specs.Fields.Sense.{plain, scale, distance, textLength}
 use Rattle.format.specs.Telegrams.{Entry}
@@ -52,7 +52,7 @@ says es = saysUnder 0 es
 
 -- d decimetres are "a whole number of metres that fits its field", and there a distance
 abbrev pub metres : Field → ℕ → Bool
-metres f d = eqb (d % 10) 0 && ltb (steps 1 d) (2 ^ f .width) && choose (viewOf (f .sense) (steps 1 d)) false false true
+metres f d = eqb (d % step 1) 0 && ltb (steps 1 d) (2 ^ f .width) && choose (viewOf (f .sense) (steps 1 d)) false false true
 
 -- "every finite distance is a whole number of metres that fits its field": up to the next scale
 unfoldable pub metric : ℕ → List Entry → Bool

@@ -12,12 +12,12 @@ use lib.ListN.{length, take, drop, getD, List·getD-map, take-append-drop}
 use Rattle.format.specs.Fields.{Field, fields, END}
 use Rattle.format.specs.Rules.{Terms}
 use Rattle.format.specs.Telegrams.{Entry, Telegram}
-use Rattle.format.proofs.Rows.{every, each, and-left, and-right}
+use Rattle.format.proofs.Rows.{and-left, and-right}
 use Rattle.laws.proofs.Listed.{AllKnown, telegram-listed, known-number}
 use Rattle.pieces.specs.Pieces.{Appended, over, past}
 use Rattle.sheet.specs.Rows.{textOf, labels, starts, fieldOf}
 use Rattle.sheet.specs.Steps.{Tables}
-use Rattle.sheet.proofs.Table.{own-part, begin, number-of, length-fields}
+use Rattle.sheet.proofs.Table.{own-part, begin, field-law, number-of}
 use Rattle.states.specs.Labels.{numbers, numbersIn}
 use Rattle.names.specs.Names.{nameIn, nameText, nameEnd}
 
@@ -87,9 +87,6 @@ mark-part = refl
 
 stands : (k : ℕ) → k < 72 → standing k ≡ nameOf (fieldOf k)
 stands k h = at-number standing parts mark-part k h
-
-field-law : (f : ℕ → Field → Bool) → T (every f 0 fields) → (k : ℕ) → k < 72 → T (f k (fieldOf k))
-field-law f t k h = each f END fields t k (rw length-fields h)
 
 ordered : (k : ℕ) → k < 72 → begin k + 4 ≤ begin (suc k)
 unfolding starts

@@ -4,7 +4,6 @@ use mathlib.Core.List.{List}
 use mathlib.Core.Path.{_≡_, sym, ap, _∙_}
 use Prim.Native.Nat.{ℕ, _≤_, _<_}
 use native.Mathlib.Omega.{arith}
-use borrow.Author.Tests.{le-leb}
 use lib.ListN.{length, take, drop, length-append}
 use lib.Seq.{take-at}
 use Rattle.bits.specs.Bits.{bytesOf, bytesFor}
@@ -21,7 +20,7 @@ use Rattle.laws.proofs.Demand2.{length-bits}
 use Rattle.laws.proofs.Demand3.{normal-count, normal-accepted, normal-again}
 use Rattle.states.specs.Reader.{early, checked}
 use Rattle.states.specs.Writer.{sizeOf, bytesOver}
-use Rattle.states.specs.Normaliser.{normaliseInto, Normalise}
+use Rattle.states.specs.Normaliser.{normalOf, normaliseInto, Normalise}
 use Rattle.states.proofs.Accepting.{sent, bytes-long, checks}
 use Rattle.states.proofs.Answered.{normalise-answer}
 use Rattle.states.proofs.Answers.{Sound, check-judges}
@@ -54,7 +53,7 @@ module _ (p : Terms) (s : List ℕ) (n : ℕ) (x : List ℕ) (g : Ready p s n x)
 
   pub form-is : normaliseInto p s n (length x) ≡ accepted form
   unfolding normaliseInto
-  form-is = rw (le-leb 104 (length x) (g .room), g .accepts)
+  form-is = with-room 104 (length x) (normalOf (checked p s n)) (g .room) ∙ ap normalOf (g .accepts)
 
   -- "A normal form is itself accepted"
   pub form-accepted : checked p (bytesOf (bits form)) n ≡ accepted form
@@ -100,14 +99,14 @@ module _ (p : Terms) (s : List ℕ) (n : ℕ) (x y : List ℕ) where
       let f = without-room 104 (length y) onceInto h in
       record { answers = rw f; once = rw f; twice = rw f }
 
-  module _ (x-after : List ℕ) (room : 104 ≤ length y) {a : Answer} (h : Normalise p s n x a x-after) where
-    as-once : renormaliseInto p s n (length x) (length y) ≡ onceInto
-    as-once = with-room 104 (length y) onceInto room
+  as-once : 104 ≤ length y → renormaliseInto p s n (length x) (length y) ≡ onceInto
+  as-once room = with-room 104 (length y) onceInto room
 
+  module _ (x-after : List ℕ) (room : 104 ≤ length y) {a : Answer} (h : Normalise p s n x a x-after) where
     pub form-refused : {r : Refusal} → a ≡ Refused r → Renormalised p s n x y a x-after y
     form-refused {r} e =
-        let f = as-once ∙ was-refused bitCount onceInto a r (normalise-answer h) e in
-        record { answers = rw f (ap inNumbers e); once = rw as-once (h .contents); twice = rw f }
+        let f = as-once room ∙ was-refused bitCount onceInto a r (normalise-answer h) e in
+        record { answers = rw f (ap inNumbers e); once = rw (as-once room) (h .contents); twice = rw f }
 
     pub renormalises : {b : Answer} {k j : ℕ} {y-after : List ℕ} → a ≡ Accepted k → j ≡ bytesFor k → Normalise p (take j x-after) k y b y-after
         → Renormalised p s n x y b x-after y-after
@@ -118,9 +117,9 @@ module _ (p : Terms) (s : List ℕ) (n : ℕ) (x y : List ℕ) where
         let q : take j x-after ≡ bytes = front p s n x g x-after h j (m ∙ ap bytesFor z) in
         let v : Normalise p bytes n y b y-after = rw (z, q) at i in
         let r : Ready p bytes n y = record { entries = form p s n x g; accepts = form-accepted p s n x g; room = room } in
-        let f = as-once ∙ form-is p s n x g in
+        let f = as-once room ∙ form-is p s n x g in
         record {
           answers = rw f (ap inNumbers (gives p bytes n y r y-after v));
-          once = rw as-once (h .contents);
+          once = rw (as-once room) (h .contents);
           twice = rw f (holds p bytes n y r y-after v ∙ ap (λ (es : List Entry). bytesOver (accepted es) y) (normal-again p (original p s n x g .telegram)));
         }

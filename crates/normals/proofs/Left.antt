@@ -4,21 +4,23 @@ use mathlib.Core.Logic.{_↔_}
 use mathlib.Core.Path.{_≡_, refl, sym, ap, _∙_}
 use Prim.Native.Nat.{ℕ, _≤_}
 use lib.ListN.{length, take}
-use Rattle.bits.specs.Bits.{bytesOf, bytesFor, same}
+use Rattle.bits.specs.Bits.{bytesOf, bytesFor}
 use Rattle.format.specs.Normal.{says, normal}
 use Rattle.format.specs.Rules.{Terms}
-use Rattle.format.specs.Telegrams.{Entry, bits}
+use Rattle.format.specs.Telegrams.{Entry, Result, bits}
 use Rattle.format.specs.Telegrams.Result.{accepted}
 use Rattle.format.specs.declared.Answer.{Answer}
-use Rattle.format.specs.declared.Answer.the-variants.{Accepted}
+use Rattle.format.specs.declared.Answer.the-variants.{Accepted, Refused}
+use Rattle.format.specs.declared.Refusal.{Refusal}
 use Rattle.format.proofs.Numbers.{answer-is}
 use Rattle.laws.proofs.Demand3.{normal-says, normal-again, same-says}
-use Rattle.states.specs.Reader.{checked}
+use Rattle.states.specs.Reader.{checked, answered}
 use Rattle.states.specs.Writer.{bytesOver}
 use Rattle.states.specs.Normaliser.{Normalise}
 use Rattle.states.proofs.Accepting.{one-telegram}
+use Rattle.states.proofs.Checking.{was-refused}
 use Rattle.states.proofs.Rooms.{with-room}
-use Rattle.normals.specs.Normals.{Renormalised, Ready}
+use Rattle.normals.specs.Normals.{renormaliseInto, Renormalised, Ready}
 use Rattle.normals.proofs.Forms.{form, original, form-telegram, form-is, form-accepted, gives, front, ready, given-size}
 
 -- the ceil(n/8) bytes in front
@@ -84,6 +86,14 @@ says-just-where p s n t m x y x-after y-after h e i f es fs c d =
     )
 
 -- ---- of `renormalised`
+
+-- "A refusal .. changes no output"
+pub renormalised-keeps : {p : Terms} {s : List ℕ} {n : ℕ} {x y x-after y-after : List ℕ} {a : Answer} {r : Refusal}
+    → Renormalised p s n x y a x-after y-after → a ≡ Refused r → (x-after ≡ x) × (y-after ≡ y)
+renormalised-keeps {p} {s} {n} {x} {y} {a = a} {r = r} h e =
+    let z = renormaliseInto p s n (length x) (length y) in
+    let f = was-refused (λ es. n) z a r (answer-is a (answered (λ es. n) z) (h .answers)) e in
+    (h .once ∙ ap (λ (w : Result). bytesOver w x) f, h .twice ∙ ap (λ (w : Result). bytesOver w y) f)
 
 module _ (p : Terms) where
   -- "normalising it again changes nothing": the answer is n, and both lent slices begin with the same bytes

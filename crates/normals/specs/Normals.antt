@@ -8,13 +8,13 @@ use Rattle.format.specs.Rules.{Terms}
 use Rattle.format.specs.Telegrams.{Entry, Result}
 use Rattle.format.specs.Telegrams.Result.{accepted}
 use Rattle.format.specs.declared.Answer.{Answer}
-use Rattle.states.specs.Reader.{checked, roomed, answered}
+use Rattle.states.specs.Reader.{bytesNeeded, checked, roomed, answered}
 use Rattle.states.specs.Writer.{bytesOver}
 use Rattle.states.specs.Normaliser.{normaliseInto}
 
 -- lent so many bytes for each: "1: output shorter than .. 104 bytes" for either, and then the reader's refusals
 abbrev pub renormaliseInto : Terms → List ℕ → ℕ → ℕ → ℕ → Result
-renormaliseInto p s n x y = roomed 104 y (normaliseInto p s n x)
+renormaliseInto p s n x y = roomed bytesNeeded y (normaliseInto p s n x)
 
 -- the promise of `renormalised`: n comes back, with the same normal form in front of what x held and of what y held
 pub record Renormalised (p : Terms) (s : List ℕ) (n : ℕ) (x y : List ℕ) (answer : Answer) (x-after y-after : List ℕ) : Type 0 where

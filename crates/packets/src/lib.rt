@@ -1,6 +1,6 @@
 // The kinds of packets. Each keeps its identifier, the bits of its head and the row at which its fields begin with the kind.
 ghost use mathlib.Core.Path.{_≡_};
-ghost use Rattle.format.specs.Kinds.{etcsStart, ctcsStart, startsAt};
+ghost use Rattle.format.specs.Kinds.{etcsStart, ctcsStart};
 
 pub mod heads;
 
@@ -56,7 +56,7 @@ impl Linking {
     const ROW: usize = 12;
 
     pub fn new() -> Self
-        ensures { λ r. ⌜ r .start ≡ startsAt 12 25 ⌝ }
+        ensures { λ r. ⌜ r .start ≡ etcsStart 5 ⌝ }
     {
         let start = Start {
             row: Self::ROW,
@@ -79,7 +79,7 @@ impl Gradient {
     const ROW: usize = 32;
 
     pub fn new() -> Self
-        ensures { λ r. ⌜ r .start ≡ startsAt 32 25 ⌝ }
+        ensures { λ r. ⌜ r .start ≡ etcsStart 21 ⌝ }
     {
         let start = Start {
             row: Self::ROW,
@@ -102,7 +102,7 @@ impl Speed {
     const ROW: usize = 44;
 
     pub fn new() -> Self
-        ensures { λ r. ⌜ r .start ≡ startsAt 44 25 ⌝ }
+        ensures { λ r. ⌜ r .start ≡ etcsStart 27 ⌝ }
     {
         let start = Start {
             row: Self::ROW,
@@ -125,7 +125,7 @@ impl Level {
     const ROW: usize = 64;
 
     pub fn new() -> Self
-        ensures { λ r. ⌜ r .start ≡ startsAt 64 25 ⌝ }
+        ensures { λ r. ⌜ r .start ≡ etcsStart 41 ⌝ }
     {
         let start = Start {
             row: Self::ROW,
@@ -148,7 +148,7 @@ impl Session {
     const ROW: usize = 77;
 
     pub fn new() -> Self
-        ensures { λ r. ⌜ r .start ≡ startsAt 77 23 ⌝ }
+        ensures { λ r. ⌜ r .start ≡ etcsStart 42 ⌝ }
     {
         let start = Start {
             row: Self::ROW,
@@ -174,7 +174,7 @@ impl National {
     pub const INNER_ROW: usize = Self::ROW + 2;
 
     pub fn new() -> Self
-        ensures { λ r. ⌜ r .start ≡ startsAt 85 23 ⌝ }
+        ensures { λ r. ⌜ r .start ≡ etcsStart 44 ⌝ }
     {
         let start = Start {
             row: Self::ROW,
@@ -197,7 +197,7 @@ impl Conditional {
     const ROW: usize = 88;
 
     pub fn new() -> Self
-        ensures { λ r. ⌜ r .start ≡ startsAt 88 23 ⌝ }
+        ensures { λ r. ⌜ r .start ≡ etcsStart 46 ⌝ }
     {
         let start = Start {
             row: Self::ROW,
@@ -220,7 +220,7 @@ impl Track {
     const ROW: usize = 97;
 
     pub fn new() -> Self
-        ensures { λ r. ⌜ r .start ≡ startsAt 97 25 ⌝ }
+        ensures { λ r. ⌜ r .start ≡ etcsStart 68 ⌝ }
     {
         let start = Start {
             row: Self::ROW,
@@ -243,7 +243,7 @@ impl Text {
     const ROW: usize = 112;
 
     pub fn new() -> Self
-        ensures { λ r. ⌜ r .start ≡ startsAt 112 25 ⌝ }
+        ensures { λ r. ⌜ r .start ≡ etcsStart 72 ⌝ }
     {
         let start = Start {
             row: Self::ROW,
@@ -266,7 +266,7 @@ impl Position {
     const ROW: usize = 131;
 
     pub fn new() -> Self
-        ensures { λ r. ⌜ r .start ≡ startsAt 131 25 ⌝ }
+        ensures { λ r. ⌜ r .start ≡ etcsStart 79 ⌝ }
     {
         let start = Start {
             row: Self::ROW,
@@ -289,7 +289,7 @@ impl Transition {
     const ROW: usize = 149;
 
     pub fn new() -> Self
-        ensures { λ r. ⌜ r .start ≡ startsAt 149 25 ⌝ }
+        ensures { λ r. ⌜ r .start ≡ etcsStart 131 ⌝ }
     {
         let start = Start {
             row: Self::ROW,
@@ -312,7 +312,7 @@ impl Shunting {
     const ROW: usize = 158;
 
     pub fn new() -> Self
-        ensures { λ r. ⌜ r .start ≡ startsAt 158 23 ⌝ }
+        ensures { λ r. ⌜ r .start ≡ etcsStart 132 ⌝ }
     {
         let start = Start {
             row: Self::ROW,
@@ -335,7 +335,7 @@ impl Sight {
     const ROW: usize = 162;
 
     pub fn new() -> Self
-        ensures { λ r. ⌜ r .start ≡ startsAt 162 23 ⌝ }
+        ensures { λ r. ⌜ r .start ≡ etcsStart 137 ⌝ }
     {
         let start = Start {
             row: Self::ROW,
@@ -358,7 +358,7 @@ impl Default {
     const ROW: usize = 166;
 
     pub fn new() -> Self
-        ensures { λ r. ⌜ r .start ≡ startsAt 166 23 ⌝ }
+        ensures { λ r. ⌜ r .start ≡ etcsStart 254 ⌝ }
     {
         let start = Start {
             row: Self::ROW,
@@ -381,7 +381,7 @@ impl Circuits {
     const ROW: usize = 169;
 
     pub fn new() -> Self
-        ensures { λ r. ⌜ r .start ≡ startsAt 169 26 ⌝ }
+        ensures { λ r. ⌜ r .start ≡ ctcsStart 1 ⌝ }
     {
         let start = Start {
             row: Self::ROW,
@@ -404,7 +404,7 @@ impl Restriction {
     const ROW: usize = 182;
 
     pub fn new() -> Self
-        ensures { λ r. ⌜ r .start ≡ startsAt 182 26 ⌝ }
+        ensures { λ r. ⌜ r .start ≡ ctcsStart 2 ⌝ }
     {
         let start = Start {
             row: Self::ROW,
@@ -427,7 +427,7 @@ impl Reversing {
     const ROW: usize = 197;
 
     pub fn new() -> Self
-        ensures { λ r. ⌜ r .start ≡ startsAt 197 26 ⌝ }
+        ensures { λ r. ⌜ r .start ≡ ctcsStart 3 ⌝ }
     {
         let start = Start {
             row: Self::ROW,
@@ -450,7 +450,7 @@ impl Turnout {
     const ROW: usize = 203;
 
     pub fn new() -> Self
-        ensures { λ r. ⌜ r .start ≡ startsAt 203 26 ⌝ }
+        ensures { λ r. ⌜ r .start ≡ ctcsStart 4 ⌝ }
     {
         let start = Start {
             row: Self::ROW,
@@ -473,7 +473,7 @@ impl Stopping {
     const ROW: usize = 209;
 
     pub fn new() -> Self
-        ensures { λ r. ⌜ r .start ≡ startsAt 209 24 ⌝ }
+        ensures { λ r. ⌜ r .start ≡ ctcsStart 5 ⌝ }
     {
         let start = Start {
             row: Self::ROW,

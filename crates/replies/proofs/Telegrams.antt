@@ -3,7 +3,6 @@ use mathlib.Core.Path.{_≡_, refl, sym, ap, ap₂, _∙_}
 use mathlib.Core.List.{List, _++_}
 use Prim.Native.Nat.{ℕ, _≤_}
 use native.Mathlib.Omega.{arith}
-use borrow.Author.Tests.{le-leb}
 use lib.ListN.{length, take, drop, length-append}
 use lib.Seq.{take-append-le, take-append-seam}
 use Rattle.answer_text.specs.Texts.{listed, sent, sentText}
@@ -21,6 +20,7 @@ use Rattle.states.specs.Normaliser.{normalOf, normaliseInto, Normalise}
 use Rattle.states.specs.Reader.{checked, readInto, answerOf, valuesOver, Read}
 use Rattle.states.specs.Writer.{writeInto, sizeOf, bytesOver, Write}
 use Rattle.states.proofs.Answered.{read-answer, write-answer, normalise-answer}
+use Rattle.states.proofs.Rooms.{with-room}
 use Rattle.replies.specs.Replies.{valuesOr, bitsOr, readText, normalText, writeText}
 
 -- ---- bits
@@ -43,11 +43,11 @@ sent-as (refused r) before = refl
 
 write-into : (vs : List ℕ) (room : ℕ) → 104 ≤ room → writeInto paper vs room ≡ write paper vs
 unfolding writeInto
-write-into vs room h = rw (le-leb 104 room h)
+write-into vs room h = with-room 104 room (write paper vs) h
 
 normalise-into : (s : List ℕ) (n room : ℕ) → 104 ≤ room → normaliseInto paper s n room ≡ normalOf (checked paper s n)
 unfolding normaliseInto
-normalise-into s n room h = rw (le-leb 104 room h)
+normalise-into s n room h = with-room 104 room (normalOf (checked paper s n)) h
 
 module _ {before after : List ℕ} {a : Answer} (l : length before ≡ 104) where
   pub written-as : (vs : List ℕ) → Write paper vs before a after → sentText (bitsOf after) a ≡ writeText vs
@@ -86,7 +86,7 @@ refused-as (refused s) r g = let same : r ≡ s = cc in ap refusalText same
 module _ (s : List ℕ) (n : ℕ) (before after : List ℕ) (a : Answer) (l : length before ≡ 830) (h : Read paper s n before a after) where
   into : readInto paper s n (length before) ≡ checked paper s n
   unfolding readInto
-  into = rw (le-leb 830 (length before) (omega arith))
+  into = with-room 830 (length before) (checked paper s n) (omega arith)
 
   pub read-within : (count : ℕ) → a ≡ Accepted count → count ≤ length after
   read-within count e = within (readInto paper s n (length before)) before after count (h .contents) (sym (read-answer h) ∙ e)

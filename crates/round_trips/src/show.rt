@@ -1,30 +1,10 @@
 // What a round trip answers and leaves, as text.
+use crate::BYTE;
 use crate::VALUE;
 use alike::Alike;
 use format::Answer;
 use format::Refusal;
 use libc::STDOUT_FILENO;
-
-pub(crate) fn run_and_bytes_left(name: &[u8], n: usize, a: Answer, run: &[u64], out: &[u8]) {
-    named(name, n);
-    answer(a);
-    print_run(run);
-    print_bytes(out);
-}
-
-pub(crate) fn bytes_left(name: &[u8], n: usize, a: Answer, x: &[u8], y: &[u8]) {
-    named(name, n);
-    answer(a);
-    print_bytes(x);
-    print_bytes(y);
-}
-
-pub(crate) fn compared(name: &[u8], a: Alike, x: &[u8], y: &[u8]) {
-    say(name);
-    alike(a);
-    print_bytes(x);
-    print_bytes(y);
-}
 
 fn say(text: &[u8]) {
     io::write_all(STDOUT_FILENO, text);
@@ -34,13 +14,18 @@ fn number(n: u64) {
     io::print_decimal(STDOUT_FILENO, n);
 }
 
-fn named(name: &[u8], n: usize) {
+// What is asked, and how much is lent.
+pub(crate) fn asked(name: &[u8], n: usize, first: usize, second: usize) {
     say(name);
     number(n as u64);
+    say(b", lent ");
+    number(first as u64);
+    say(b" and ");
+    number(second as u64);
     say(b":");
 }
 
-fn answer(a: Answer) {
+pub(crate) fn answer(a: Answer) {
     match a {
         Answer::Accepted(n) => {
             say(b" ok ");
@@ -51,7 +36,7 @@ fn answer(a: Answer) {
     }
 }
 
-fn alike(a: Alike) {
+pub(crate) fn compared(a: Alike) {
     match a {
         Alike::Same => say(b" same\n"),
         Alike::Other => say(b" other\n"),
@@ -69,8 +54,8 @@ fn refused(text: &[u8], r: Refusal) {
     say(b"\n");
 }
 
-// The values that are not those that were lent, each behind its place.
-fn print_run(run: &[u64]) {
+// What is not as it was lent, each behind its place.
+pub(crate) fn print_run(run: &[u64]) {
     let mut i = 0;
     while i < run.len() {
         print_value(i as u64, run[i]);
@@ -79,22 +64,30 @@ fn print_run(run: &[u64]) {
     say(b"\n");
 }
 
-fn print_value(i: u64, v: u64) {
-    if v == VALUE {
-        return;
+pub(crate) fn print_bytes(s: &[u8]) {
+    let mut i = 0;
+    while i < s.len() {
+        print_byte(i as u64, s[i]);
+        i += 1;
     }
+    say(b"\n");
+}
+
+fn print_value(i: u64, v: u64) {
+    if v != VALUE {
+        print_at(i, v);
+    }
+}
+
+fn print_byte(i: u64, b: u8) {
+    if b != BYTE {
+        print_at(i, b as u64);
+    }
+}
+
+fn print_at(i: u64, v: u64) {
     say(b" ");
     number(i);
     say(b"=");
     number(v);
-}
-
-fn print_bytes(s: &[u8]) {
-    let mut i = 0;
-    while i < s.len() {
-        say(b" ");
-        io::print_hex(STDOUT_FILENO, s[i] as u64, 2);
-        i += 1;
-    }
-    say(b"\n");
 }

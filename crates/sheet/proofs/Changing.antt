@@ -19,6 +19,7 @@ use Rattle.format.specs.declared.Refusal.{Refusal}
 use Rattle.laws.proofs.Pairs.{Pair, Implies}
 use Rattle.laws.proofs.Tens.{directing, AtFirst, Repeats, pointed-repeats}
 use Rattle.laws.proofs.Changed.{Changed, write-changed}
+use Rattle.states.specs.Reader.{bytesNeeded, early}
 use Rattle.states.proofs.Changing.{tested-changed, check-changed}
 use Rattle.states.specs.Labels.{numbers}
 use Rattle.sheet.specs.Reading.{Rows, sheetIn}
@@ -101,7 +102,7 @@ module _ (weak strong : ℕ → ℕ → Bool) (implies : Implies weak strong) wh
 
   pub import-changed : (text : List ℕ) (room : ℕ) → Changed-import strong (importInto (directing weak) text room) (importInto (directing strong) text room)
   unfolding importInto imported
-  import-changed text room = by-room (leb 104 room) (record { kind = Room; place = 0 }) (rows-changed (sheetIn text))
+  import-changed text room = by-room (leb bytesNeeded room) (early Room) (rows-changed (sheetIn text))
 
 -- ---- what a 10 is
 

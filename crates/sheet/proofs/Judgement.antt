@@ -22,7 +22,9 @@ use Rattle.states.specs.Writer.{writeInto, Write}
 use Rattle.states.proofs.Answered.{label-answer}
 use Rattle.states.proofs.Checking.{was-refused}
 use Rattle.states.proofs.Leaving.{same-length}
+use Rattle.states.proofs.Rooms.{with-room}
 use Rattle.states.proofs.Writing.{Written, written}
+use Rattle.states.specs.Reader.{early}
 use Rattle.states.specs.Writer as writer
 use Rattle.sheet.specs.Sheets.{inNumbers, Imported, named, judged, onSheet, imported, importInto, sizeOf, bytesOver, Import}
 use Rattle.sheet.specs.Sheets.Imported.{taken, refusedBy, refusedAt}
@@ -38,7 +40,7 @@ use Rattle.sheet.proofs.Columns.{values-of, numbers-of}
 module _ {vs due after : List ℕ} {a : Answer} (l : Label paper vs due a after) (h : 830 ≤ length due) where
   into : labelInto paper vs (length due) ≡ write paper vs
   unfolding labelInto
-  into = rw (le-leb 830 (length due) h)
+  into = with-room 830 (length due) (write paper vs) h
 
   label-answers : a ≡ writer.sizeOf (write paper vs)
   label-answers = label-answer l ∙ ap writer.sizeOf into
@@ -60,7 +62,7 @@ module _ {vs due after : List ℕ} {a : Answer} (l : Label paper vs due a after)
 -- ---- after the rows
 
 module _ (ks vs before : List ℕ) where
-  pub judges-roomless : length before < 104 → Judged ks vs before (reply.Refused (record { kind = Room; place = 0 })) before
+  pub judges-roomless : length before < 104 → Judged ks vs before (reply.Refused (early Room)) before
   unfolding columnsInto
   judges-roomless h = record { answers = rw (lt-leb 104 (length before) h); contents = rw (lt-leb 104 (length before) h) }
 
@@ -85,7 +87,7 @@ module _ (ks vs before : List ℕ) where
 
       wrote : writeInto paper vs (length before) ≡ accepted es
       unfolding writeInto
-      wrote = rw (le-leb 104 (length before) h) e
+      wrote = with-room 104 (length before) (write paper vs) h ∙ e
 
       -- the telegram, written
       pub judges-taken : r ≡ 0 → {b : Answer} {after : List ℕ} → Write paper vs before b after → {n : ℕ} → n ≡ bitCount es
@@ -101,7 +103,7 @@ module _ (ks vs before : List ℕ) where
 -- ---- import
 
 module _ (text before : List ℕ) where
-  pub imports-roomless : length before < 104 → Import paper text before (reply.Refused (record { kind = Room; place = 0 })) before
+  pub imports-roomless : length before < 104 → Import paper text before (reply.Refused (early Room)) before
   unfolding importInto
   imports-roomless h = record { answers = rw (lt-leb 104 (length before) h); contents = rw (lt-leb 104 (length before) h) }
 

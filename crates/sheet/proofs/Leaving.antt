@@ -18,7 +18,7 @@ use Rattle.format.specs.declared.Kind.the-variants.{Room}
 use Rattle.laws.proofs.Demand2.{write-is}
 use Rattle.laws.proofs.Listed.{telegram-listed}
 use Rattle.states.specs.Labels.{numbers}
-use Rattle.states.specs.Reader.{checked}
+use Rattle.states.specs.Reader.{early, checked}
 use Rattle.states.proofs.Accepting.{bytes-long}
 use Rattle.states.proofs.Answers.{Sound, check-judges}
 use Rattle.states.proofs.Leaving.{Stores, Listed, stored, few-values, few-bytes}
@@ -115,8 +115,8 @@ module _ {ks vs before after : List ℕ} {reply : Reply} (h : Judged ks vs befor
     by-result l (refused x) w z c = let i : _≡_ {A = ℕ} 0 1 = cc in absurd (omega arith)
 
     by-room : (b : Bool) → leb 104 (length before) ≡ b
-        → Done n ≡ sizeOf (cond b (judged ks (write paper vs)) (refusedBy (record { kind = Room; place = 0 })))
-        → after ≡ bytesOver (cond b (judged ks (write paper vs)) (refusedBy (record { kind = Room; place = 0 }))) before → Left
+        → Done n ≡ sizeOf (cond b (judged ks (write paper vs)) (refusedBy (early Room)))
+        → after ≡ bytesOver (cond b (judged ks (write paper vs)) (refusedBy (early Room))) before → Left
     by-room true q z c = by-result (leb-true 104 (length before) q) (write paper vs) refl z c
     by-room false q z c = let i : _≡_ {A = ℕ} 0 1 = cc in absurd (omega arith)
 

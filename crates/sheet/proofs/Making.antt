@@ -3,7 +3,6 @@ use mathlib.Core.Path.{_≡_, sym, ap, _∙_, subst}
 use mathlib.Core.List.{List, [], _∷_, _++_}
 use Prim.Native.Nat.{ℕ, _≤_, _<_}
 use native.Mathlib.Omega.{arith}
-use borrow.Author.Tests.{le-leb, lt-leb}
 use lib.ListN.{length, take, drop}
 use lib.Seq.{take-at}
 use Rattle.bits.specs.Bits.{Below}
@@ -17,10 +16,11 @@ use Rattle.format.specs.declared.Answer.the-variants.{Accepted, Refused}
 use Rattle.laws.proofs.Demand2.{writes}
 use Rattle.laws.proofs.Listed.{AllKnown, telegram-listed, known-number}
 use Rattle.states.specs.Labels.{numbers, numbersIn, Label}
-use Rattle.states.specs.Reader.{checked, readInto, answerOf, valuesOver, Read}
+use Rattle.states.specs.Reader.{early, checked, readInto, answerOf, valuesOver, Read}
 use Rattle.states.proofs.Answered.{read-answer}
 use Rattle.states.proofs.Checking.{AcceptedAs, was-accepted, was-refused, holds}
 use Rattle.states.proofs.Leaving.{few-values, same-length}
+use Rattle.states.proofs.Rooms.{with-room, without-room}
 use Rattle.pieces.specs.Pieces.{Appended, Grown}
 use Rattle.pieces.proofs.Starts.{grown-none, grows}
 use Rattle.sheet.specs.Rows.{heading, rowText, sheetText}
@@ -88,18 +88,18 @@ module _ {vs text : List ℕ} (l : Listing vs text) where
 -- ---- export
 
 module _ (s : List ℕ) (n : ℕ) (before : List ℕ) where
-  pub exports-roomless : length before < 65536 → Export paper s n before (reply.Refused (record { kind = Room; place = 0 })) before
+  pub exports-roomless : length before < 65536 → Export paper s n before (reply.Refused (early Room)) before
   unfolding exported
-  exports-roomless h = record { answers = rw (lt-leb 65536 (length before) h); contents = rw (lt-leb 65536 (length before) h) }
+  exports-roomless h = let e = without-room 65536 (length before) (checked paper s n) h in record { answers = rw e; contents = rw e }
 
   into : 65536 ≤ length before → exported paper s n (length before) ≡ checked paper s n
   unfolding exported
-  into h = rw (le-leb 65536 (length before) h)
+  into h = with-room 65536 (length before) (checked paper s n) h
 
   module _ {run after : List ℕ} {a : Answer} (r : Read paper s n run a after) (g : 830 ≤ length run) where
     read-into : readInto paper s n (length run) ≡ checked paper s n
     unfolding readInto
-    read-into = rw (le-leb 830 (length run) g)
+    read-into = with-room 830 (length run) (checked paper s n) g
 
     read-answers : a ≡ answerOf (checked paper s n)
     read-answers = read-answer r ∙ ap answerOf read-into

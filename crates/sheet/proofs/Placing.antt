@@ -12,6 +12,7 @@ use Rattle.format.specs.declared.Kind.the-variants.{Room}
 use Rattle.format.specs.declared.Refusal.{Refusal}
 use Rattle.laws.proofs.Place.{Alike, write-alike}
 use Rattle.laws.proofs.Place.Alike.{both-accepted, both-refused}
+use Rattle.states.specs.Reader.{bytesNeeded, early}
 use Rattle.states.proofs.Placing.{p, q, same-left, tested-alike, check-alike}
 use Rattle.states.specs.Labels.{numbers}
 use Rattle.sheet.specs.Reading.{Rows, sheetIn}
@@ -61,4 +62,4 @@ module _ (place other : Kind → State → ℕ) (collides : Context → ℕ → 
   pub import-alike : (text : List ℕ) (room : ℕ)
       → Alike-import (importInto (p place other collides) text room) (importInto (q place other collides) text room)
   unfolding importInto imported
-  import-alike text room = by-room (leb 104 room) (record { kind = Room; place = 0 }) (rows-alike (sheetIn text))
+  import-alike text room = by-room (leb bytesNeeded room) (early Room) (rows-alike (sheetIn text))

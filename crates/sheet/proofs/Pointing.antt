@@ -16,7 +16,7 @@ use Rattle.format.specs.declared.Kind.the-variants.{Room}
 use Rattle.format.specs.declared.Refusal.{Refusal}
 use Rattle.laws.proofs.Points.{Pointed}
 use Rattle.laws.proofs.Pointed.{pointing, write-pointed}
-use Rattle.states.specs.Reader.{checked}
+use Rattle.states.specs.Reader.{bytesNeeded, early, checked}
 use Rattle.states.proofs.Pointing.{not-room, room-passed, check-pointed}
 use Rattle.sheet.specs.Reading.{Rows, sheetIn}
 use Rattle.sheet.specs.Reading.Rows.{rows, bad}
@@ -53,10 +53,10 @@ module _ (collides : Context → ℕ → Bool) (r : Refusal) (late : 3 < numberO
   by-rows text (rows rs) i e =
       record { read = rs; is = i; pointed = write-pointed collides (values rs) r (by-writer r (numbers rs) (write (pointing collides) (values rs)) e) }
 
-  by-room : (test : Bool) (a : Imported) → cond test a (refusedBy (record { kind = Room; place = 0 })) ≡ refusedBy r → a ≡ refusedBy r
+  by-room : (test : Bool) (a : Imported) → cond test a (refusedBy (early Room)) ≡ refusedBy r → a ≡ refusedBy r
   by-room true a e = e
   by-room false a e = absurd (not-room r (cc) late)
 
   pub import-pointed : (text : List ℕ) (room : ℕ) → importInto (pointing collides) text room ≡ refusedBy r → InColumn collides text r
   unfolding importInto imported
-  import-pointed text room e = by-rows text (sheetIn text) refl (by-room (leb 104 room) (imported (pointing collides) text) e)
+  import-pointed text room e = by-rows text (sheetIn text) refl (by-room (leb bytesNeeded room) (imported (pointing collides) text) e)

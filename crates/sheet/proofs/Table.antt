@@ -29,7 +29,7 @@ unfolding starts
 length-starts = refl
 
 -- what holds of each field, with its number
-field-law : (f : ℕ → Field → Bool) → T (every f 0 fields) → (k : ℕ) → k < 72 → T (f k (fieldOf k))
+pub field-law : (f : ℕ → Field → Bool) → T (every f 0 fields) → (k : ℕ) → k < 72 → T (f k (fieldOf k))
 field-law f t k h = each f END fields t k (rw length-fields h)
 
 pub number-of : (k : ℕ) → k < 72 → fieldOf k .number ≡ k

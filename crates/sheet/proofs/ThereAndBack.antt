@@ -15,9 +15,10 @@ use Rattle.format.specs.Telegrams.{Entry, Result, bits, bitCount}
 use Rattle.format.specs.Telegrams.Result.{accepted, refused}
 use Rattle.format.specs.declared.Kind.the-variants.{Room}
 use Rattle.laws.proofs.Demand2.{length-bits}
-use Rattle.states.specs.Reader.{atOnce, checked}
+use Rattle.states.specs.Reader.{early, checked}
 use Rattle.states.proofs.Accepting.{sent, same-bytes, bytes-long}
 use Rattle.states.proofs.Answers.{Sound, check-judges}
+use Rattle.states.proofs.Rooms.{had-room}
 use Rattle.sheet.specs.Rows.{sheetText}
 use Rattle.sheet.specs.Sheets.{Imported, exported, lengthOf, sheetOver, imported, importInto, sizeOf, bytesOver, Export, Import}
 use Rattle.sheet.specs.Sheets.Imported.{taken, refusedBy, refusedAt}
@@ -52,7 +53,7 @@ unfolding importInto
 held p text room n e = by-room (leb 104 room) (imported p text) refl refl e
   where
     by-room : (b : Bool) (i : Imported) → leb 104 room ≡ b → imported p text ≡ i
-        → Done n ≡ sizeOf (cond b i (refusedBy (record { kind = Room; place = 0 }))) → Held p text room n
+        → Done n ≡ sizeOf (cond b i (refusedBy (early Room))) → Held p text room n
     by-room true (taken es) q r z = record { entries = es; enough = leb-true 104 room q; into = rw (q, r); is = r; size = cc }
     by-room true (refusedBy x) q r z = let w : _≡_ {A = ℕ} 0 1 = cc in absurd (omega arith)
     by-room true (refusedAt k) q r z = let w : _≡_ {A = ℕ} 0 1 = cc in absurd (omega arith)
@@ -62,11 +63,7 @@ module _ (p : Terms) where
   -- exported is checked, where there is room
   exported-checked : (s : List ℕ) (n room : ℕ) (es : List Entry) → exported p s n room ≡ accepted es → checked p s n ≡ accepted es
   unfolding exported
-  exported-checked s n room es e = by (leb 65536 room) e
-    where
-      by : (b : Bool) → cond b (checked p s n) (atOnce Room) ≡ accepted es → checked p s n ≡ accepted es
-      by true z = z
-      by false z = let w : _≡_ {A = ℕ} 0 1 = cc in absurd (omega arith)
+  exported-checked s n room es e = had-room 65536 room (checked p s n) es e .1
 
   -- "Export gives the one sheet of an accepted telegram; import of that sheet gives the telegram again"
   pub import-exported : {s text after out back : List ℕ} {n m : ℕ} {reply : Reply} → Below 256 s → Export p s n text (Done m) after

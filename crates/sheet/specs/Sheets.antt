@@ -14,7 +14,7 @@ use Rattle.format.specs.declared.Kind.the-variants.{Room}
 use Rattle.format.specs.declared.Refusal.{Refusal}
 use Rattle.bits.specs.Bits.{bytesOf}
 use Rattle.states.specs.Labels.{numbers}
-use Rattle.states.specs.Reader.{early, roomed, checked}
+use Rattle.states.specs.Reader.{bytesNeeded, early, roomed, checked}
 use Rattle.sheet.specs.Rows.{sheetText}
 use Rattle.sheet.specs.Reading.{Rows, sheetIn}
 use Rattle.sheet.specs.Reading.Rows.{rows, bad}
@@ -91,7 +91,7 @@ imported p text = onSheet p (sheetIn text)
 
 -- "in import a telegram output under 104"
 unfoldable pub importInto : Terms → List ℕ → ℕ → Imported
-importInto p text room = cond (leb 104 room) (imported p text) (refusedBy (early Room))
+importInto p text room = cond (leb bytesNeeded room) (imported p text) (refusedBy (early Room))
 
 abbrev pub sizeOf : Imported → Reply
 sizeOf (taken es) = Done (bitCount es)

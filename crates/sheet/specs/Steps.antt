@@ -13,7 +13,7 @@ use Rattle.format.specs.Telegrams.{Entry, Telegram, all, values, write}
 use Rattle.format.specs.Telegrams.Result.{accepted}
 use Rattle.format.specs.declared.Kind.the-variants.{Room}
 use Rattle.pieces.specs.Pieces.{begins, Grown}
-use Rattle.states.specs.Reader.{early}
+use Rattle.states.specs.Reader.{bytesNeeded, early}
 use Rattle.sheet.specs.Rows.{labelText, rowText, fieldOf, entryOf, labels, starts}
 use Rattle.sheet.specs.Reading.{Row, Rows, labelIn, sheetIn}
 use Rattle.sheet.specs.Reading.Rows.{rows, bad}
@@ -98,7 +98,7 @@ pub record Collected (text : List ℕ) (r : reading.Rows) (ks vs : List ℕ) : T
 
 -- the numbers of the rows' fields and the value column as a telegram, with "a telegram output under 104" refused first
 unfoldable pub columnsInto : Terms → List ℕ → List ℕ → ℕ → Imported
-columnsInto p ks vs room = cond (leb 104 room) (judged ks (write p vs)) (refusedBy (early Room))
+columnsInto p ks vs room = cond (leb bytesNeeded room) (judged ks (write p vs)) (refusedBy (early Room))
 
 -- the promise of `judge`
 pub record Judged (ks vs before : List ℕ) (reply : Reply) (after : List ℕ) : Type 0 where

@@ -1,5 +1,5 @@
--- What the answers of the check and of the reader say: which number is given when, that an accepted telegram is tiled, and what the lent
--- run then holds. For any terms. Assumes nothing.
+-- What the answers of the check and of the reader say: which number is given when, and that an accepted telegram is tiled. For any terms. Assumes
+-- nothing.
 use mathlib.Core.Bool.{Bool, true, false, cond, _&&_}
 use mathlib.Core.List.{List, [], _∷_}
 use mathlib.Core.Logic.{_↔_, _⊎_, inl, inr}

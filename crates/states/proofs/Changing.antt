@@ -26,10 +26,11 @@ use Rattle.laws.proofs.Changed.{Changed, not-both, read-changed, write-changed}
 use Rattle.laws.proofs.BothWays.{Mixed, same-clash, turned-mixed}
 use Rattle.states.specs.Labels.{labelInto}
 use Rattle.states.specs.Normaliser.{normalOf, normaliseInto}
-use Rattle.states.specs.Reader.{sized, clear, atOnce, checked, readInto}
+use Rattle.states.specs.Reader.{valuesNeeded, bytesNeeded, sized, clear, atOnce, checked, readInto}
 use Rattle.states.specs.Writer.{writeInto}
 use Rattle.states.proofs.Answers.{sent-below, sent-few, check-judges}
-use Rattle.states.proofs.Pointing.{room-accepted, normal-refused, normal-given, check-pointed, reader-pointed, normaliser-pointed, writer-pointed, label-pointed}
+use Rattle.states.proofs.Pointing.{normal-refused, normal-given, check-pointed, reader-pointed, normaliser-pointed, writer-pointed, label-pointed}
+use Rattle.states.proofs.Rooms.{had-room}
 
 -- ---- a test before it, whose refusal does not change
 
@@ -51,7 +52,7 @@ tested-changed {strong} false k h = refused-changed strong (record { kind = k; p
 -- what the writer accepts is a telegram
 writes-telegram : (p : Terms) (vs : List ℕ) (room : ℕ) (es : List Entry) → writeInto p vs room ≡ accepted es → Telegram p es
 unfolding writeInto
-writes-telegram p vs room es a = write-is p vs es (room-accepted (leb 104 room) (write p vs) es a) .0
+writes-telegram p vs room es a = write-is p vs es (had-room bytesNeeded room (write p vs) es a .1) .0
 
 -- ---- the answers
 
@@ -64,18 +65,18 @@ module _ (weak strong : ℕ → ℕ → Bool) (implies : Implies weak strong) wh
 
   pub reader-changed : (s : List ℕ) (n room : ℕ) → Changed strong (readInto (directing weak) s n room) (readInto (directing strong) s n room)
   unfolding readInto
-  reader-changed s n room = tested-changed (leb 830 room) Room (λ i. check-changed s n)
+  reader-changed s n room = tested-changed (leb valuesNeeded room) Room (λ i. check-changed s n)
 
   pub writer-changed : (vs : List ℕ) (room : ℕ) → Changed strong (writeInto (directing weak) vs room) (writeInto (directing strong) vs room)
   unfolding writeInto
-  writer-changed vs room = tested-changed (leb 104 room) Room (λ i. write-changed weak strong implies vs)
+  writer-changed vs room = tested-changed (leb bytesNeeded room) Room (λ i. write-changed weak strong implies vs)
 
   pub label-changed : (vs : List ℕ) (room : ℕ) → Changed strong (labelInto (directing weak) vs room) (labelInto (directing strong) vs room)
   unfolding labelInto
-  label-changed vs room = tested-changed (leb 830 room) Room (λ i. write-changed weak strong implies vs)
+  label-changed vs room = tested-changed (leb valuesNeeded room) Room (λ i. write-changed weak strong implies vs)
 
 -- the normaliser, lent 104 bytes, refuses what the check refuses and in the same way, and gives the normal form of what the check accepts
-module _ (p : Terms) (s : List ℕ) (n room : ℕ) (lent : leb 104 room ≡ true) where
+module _ (p : Terms) (s : List ℕ) (n room : ℕ) (lent : leb bytesNeeded room ≡ true) where
   is-normal : normaliseInto p s n room ≡ normalOf (checked p s n)
   unfolding normaliseInto
   is-normal = rw lent

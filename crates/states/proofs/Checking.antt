@@ -4,7 +4,7 @@ use mathlib.Core.Bool.{Bool, true, false, cond, _&&_}
 use mathlib.Core.List.{List}
 use Prim.Native.Nat.{ℕ, _*_, _≤_, _<_}
 use native.Mathlib.Omega.{arith}
-use borrow.Author.Tests.{leb-true, eqb-true, le-leb, lt-leb}
+use borrow.Author.Tests.{leb-true, eqb-true}
 use lib.Dec.{eqb, leb}
 use lib.ListN.{length, take}
 use lib.Seq.{length-take-le}
@@ -19,8 +19,9 @@ use Rattle.format.specs.declared.Refusal.{Refusal}
 use Rattle.format.specs.declared.Answer.{Answer}
 use Rattle.format.specs.declared.Answer.the-variants.{Accepted, Refused}
 use Rattle.laws.proofs.Demand2.{read-is}
-use Rattle.states.specs.Reader.{answered, sized, clear, atOnce, checked, readInto, answerOf, Read}
+use Rattle.states.specs.Reader.{answered, sized, clear, early, atOnce, checked, readInto, answerOf, Read}
 use Rattle.states.specs.Filling.{Filling, Filled}
+use Rattle.states.proofs.Rooms.{with-room, without-room}
 
 -- ---- 2 and 3
 
@@ -111,14 +112,14 @@ fillable s n out a k room p q =
     record { entries = w .entries; telegram = h .telegram; same = h .same; within = h .within; room = room }
 
 module _ (s : List ℕ) (n : ℕ) (before : List ℕ) where
-  pub reads-roomless : length before < 830 → Read paper s n before (Refused (record { kind = Room; place = 0 })) before
+  pub reads-roomless : length before < 830 → Read paper s n before (Refused (early Room)) before
   unfolding readInto
-  reads-roomless h = record { answers = rw (lt-leb 830 (length before) h); contents = rw (lt-leb 830 (length before) h) }
+  reads-roomless h = let e = without-room 830 (length before) (checked paper s n) h in record { answers = rw e; contents = rw e }
 
   module _ (h : 830 ≤ length before) where
     into : readInto paper s n (length before) ≡ checked paper s n
     unfolding readInto
-    into = rw (le-leb 830 (length before) h)
+    into = with-room 830 (length before) (checked paper s n) h
 
     pub reads-refused : (a : Answer) (x : Refusal) → a ≡ answerOf (checked paper s n) → a ≡ Refused x → Read paper s n before a before
     reads-refused a x p q = record { answers = rw into (ap inNumbers p); contents = rw (into, was-refused counted (checked paper s n) a x p q) }

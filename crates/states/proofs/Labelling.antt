@@ -5,7 +5,6 @@ use mathlib.Core.List.{List, _∷_, _++_}
 use Prim.Native.Nat.{ℕ, _+_, _≤_, _<_}
 use native.Mathlib.Nat.{add-zero}
 use native.Mathlib.Omega.{arith}
-use borrow.Author.Tests.{le-leb, lt-leb}
 use lib.ListN.{length, drop, getD, set, length-set}
 use Rattle.format.specs.Refusals.{inNumbers}
 use Rattle.format.specs.Rules.{paper, named}
@@ -18,6 +17,7 @@ use Rattle.format.specs.declared.Answer.the-variants.{Accepted, Refused}
 use Rattle.states.specs.Along.{Onward}
 use Rattle.states.specs.Labels.{numbersIn, numbers, labelInto, numbersOver, Label, Labelling, Labelled, numberAt}
 use Rattle.states.specs.Machine.{Advanced}
+use Rattle.states.specs.Reader.{early}
 use Rattle.states.specs.Writer.{sizeOf}
 use Rattle.states.specs.declared.Todo.{Todo}
 use Rattle.states.specs.declared.Ahead.{Ahead}
@@ -25,6 +25,7 @@ use Rattle.states.specs.declared.Ahead.the-variants.{On, Mark}
 use Rattle.states.proofs.Checking.{was-refused}
 use Rattle.states.proofs.Filling.{stored-more, stored-last}
 use Rattle.states.proofs.Moves.{named-right}
+use Rattle.states.proofs.Rooms.{with-room, without-room}
 use Rattle.states.proofs.Runs.{stored, held, valueDue, restDue, positive, low, nothing-left}
 use Rattle.states.proofs.Valued.{Valued, valued-first, valued-next, value-is, one-telegram}
 use Rattle.states.proofs.Writing.{written}
@@ -107,14 +108,14 @@ module _ {vs before out : List ℕ} {t : Todo} {i : ℕ} (g : Naming vs before o
 -- ---- 1, then as the writer
 
 module _ (vs before : List ℕ) where
-  pub labels-roomless : length before < 830 → Label paper vs before (Refused (record { kind = Room; place = 0 })) before
+  pub labels-roomless : length before < 830 → Label paper vs before (Refused (early Room)) before
   unfolding labelInto
-  labels-roomless h = record { answers = rw (lt-leb 830 (length before) h); contents = rw (lt-leb 830 (length before) h) }
+  labels-roomless h = let e = without-room 830 (length before) (write paper vs) h in record { answers = rw e; contents = rw e }
 
   module _ (h : 830 ≤ length before) where
     into : labelInto paper vs (length before) ≡ write paper vs
     unfolding labelInto
-    into = rw (le-leb 830 (length before) h)
+    into = with-room 830 (length before) (write paper vs) h
 
     pub labels-refused : {a : Answer} {x : Refusal} → a ≡ sizeOf (write paper vs) → a ≡ Refused x → Label paper vs before a before
     labels-refused {a} {x} p q = record { answers = rw into (ap inNumbers p); contents = rw (into, was-refused bitCount (write paper vs) a x p q) }

@@ -2,7 +2,6 @@
 use mathlib.Core.Path.{_≡_, refl, ap, _∙_}
 use mathlib.Core.List.{List}
 use Prim.Native.Nat.{ℕ, _≤_, _<_}
-use borrow.Author.Tests.{le-leb, lt-leb}
 use lib.ListN.{length}
 use Rattle.format.specs.Normal.{normal}
 use Rattle.format.specs.Refusals.{inNumbers}
@@ -14,22 +13,24 @@ use Rattle.format.specs.declared.Answer.{Answer}
 use Rattle.format.specs.declared.Answer.the-variants.{Accepted, Refused}
 use Rattle.laws.proofs.Demand2.{length-bits}
 use Rattle.states.specs.Normaliser.{normalOf, normaliseInto, Normalise, Telling, Normalised}
-use Rattle.states.specs.Reader.{answerOf, checked}
+use Rattle.states.specs.Reader.{early, answerOf, checked}
 use Rattle.states.proofs.Checking.{holds, was-accepted, was-refused}
+use Rattle.states.proofs.Rooms.{with-room, without-room}
 use Rattle.states.proofs.Telling.{normal-all}
 
 abbrev counted : List Entry → ℕ
 counted es = length (values es)
 
 module _ (s : List ℕ) (n : ℕ) (before : List ℕ) where
-  pub normalises-roomless : length before < 104 → Normalise paper s n before (Refused (record { kind = Room; place = 0 })) before
+  pub normalises-roomless : length before < 104 → Normalise paper s n before (Refused (early Room)) before
   unfolding normaliseInto
-  normalises-roomless h = record { answers = rw (lt-leb 104 (length before) h); contents = rw (lt-leb 104 (length before) h) }
+  normalises-roomless h =
+      let e = without-room 104 (length before) (normalOf (checked paper s n)) h in record { answers = rw e; contents = rw e }
 
   module _ (h : 104 ≤ length before) where
     into : normaliseInto paper s n (length before) ≡ normalOf (checked paper s n)
     unfolding normaliseInto
-    into = rw (le-leb 104 (length before) h)
+    into = with-room 104 (length before) (normalOf (checked paper s n)) h
 
     module _ {a : Answer} (p : a ≡ answerOf (checked paper s n)) where
       -- "the reader's refusal as it stands"

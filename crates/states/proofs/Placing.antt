@@ -18,7 +18,7 @@ use Rattle.laws.proofs.Place.{Alike, read-alike, write-alike}
 use Rattle.laws.proofs.Place.Alike.{both-accepted, both-refused}
 use Rattle.states.specs.Labels.{labelInto, numbersOver}
 use Rattle.states.specs.Normaliser.{normalOf, normaliseInto}
-use Rattle.states.specs.Reader.{sized, clear, atOnce, checked, readInto, answerOf, valuesOver}
+use Rattle.states.specs.Reader.{valuesNeeded, bytesNeeded, sized, clear, atOnce, checked, readInto, answerOf, valuesOver}
 use Rattle.states.specs.Writer.{writeInto, bytesOver}
 
 -- ---- what two answers that are alike have in common
@@ -61,19 +61,19 @@ module _ (place other : Kind → State → ℕ) (collides : Context → ℕ → 
 
   pub reader-alike : (s : List ℕ) (n room : ℕ) → Alike (readInto p s n room) (readInto q s n room)
   unfolding readInto
-  reader-alike s n room = tested-alike (leb 830 room) Room (check-alike s n)
+  reader-alike s n room = tested-alike (leb valuesNeeded room) Room (check-alike s n)
 
   pub normaliser-alike : (s : List ℕ) (n room : ℕ) → Alike (normaliseInto p s n room) (normaliseInto q s n room)
   unfolding normaliseInto
-  normaliser-alike s n room = tested-alike (leb 104 room) Room (normal-alike (check-alike s n))
+  normaliser-alike s n room = tested-alike (leb bytesNeeded room) Room (normal-alike (check-alike s n))
 
   pub writer-alike : (vs : List ℕ) (room : ℕ) → Alike (writeInto p vs room) (writeInto q vs room)
   unfolding writeInto
-  writer-alike vs room = tested-alike (leb 104 room) Room (write-alike p q (λ c v. refl) vs)
+  writer-alike vs room = tested-alike (leb bytesNeeded room) Room (write-alike p q (λ c v. refl) vs)
 
   pub label-alike : (vs : List ℕ) (room : ℕ) → Alike (labelInto p vs room) (labelInto q vs room)
   unfolding labelInto
-  label-alike vs room = tested-alike (leb 830 room) Room (write-alike p q (λ c v. refl) vs)
+  label-alike vs room = tested-alike (leb valuesNeeded room) Room (write-alike p q (λ c v. refl) vs)
 
   -- ---- and what they leave in what is lent
 

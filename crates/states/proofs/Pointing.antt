@@ -20,7 +20,7 @@ use Rattle.laws.proofs.Pointed.{pointing, read-pointed, write-pointed}
 use Rattle.laws.proofs.Shown.{Shown, read-shown}
 use Rattle.states.specs.Labels.{labelInto}
 use Rattle.states.specs.Normaliser.{normalOf, normaliseInto}
-use Rattle.states.specs.Reader.{atOnce, checked, readInto}
+use Rattle.states.specs.Reader.{valuesNeeded, bytesNeeded, early, atOnce, checked, readInto}
 use Rattle.states.specs.Writer.{writeInto}
 use Rattle.states.proofs.Answers.{sent-below, sent-few, fields-decide, field-given}
 
@@ -30,17 +30,12 @@ paper-points = refl
 
 -- ---- a refusal from 4 on does not come of the room that is lent
 
-pub not-room : (r : Refusal) → record { kind = Room; place = 0 } ≡ r → 3 < numberOf (r .kind) → ⊥
+pub not-room : (r : Refusal) → early Room ≡ r → 3 < numberOf (r .kind) → ⊥
 not-room r i = rw (← i) (λ l. omega arith)
 
 pub room-passed : (test : Bool) (a : Result) (r : Refusal) → 3 < numberOf (r .kind) → cond test a (atOnce Room) ≡ refused r → a ≡ refused r
 room-passed true a r l e = e
 room-passed false a r l e = absurd (not-room r (cc) l)
-
--- what is accepted behind that test is accepted without it
-pub room-accepted : (test : Bool) (a : Result) (es : List Entry) → cond test a (atOnce Room) ≡ accepted es → a ≡ accepted es
-room-accepted true a es e = e
-room-accepted false a es e = let z : _≡_ {A = ℕ} 0 1 = cc in absurd (omega arith)
 
 -- the normaliser gives the normal form of what the check accepts, and refuses what it refuses
 pub normal-given : (a : Result) (fs : List Entry) → normalOf a ≡ accepted fs → (es : List Entry) × (a ≡ accepted es) × (fs ≡ normal es)
@@ -69,23 +64,23 @@ module _ (collides : Context → ℕ → Bool) (r : Refusal) (late : 3 < numberO
 
     pub reader-pointed : (room : ℕ) → readInto (pointing collides) s n room ≡ refused r → Pointed (pointing collides) fromBits bitsIn sent r
     unfolding readInto
-    reader-pointed room e = check-pointed (room-passed (leb 830 room) (checked (pointing collides) s n) r late e)
+    reader-pointed room e = check-pointed (room-passed (leb valuesNeeded room) (checked (pointing collides) s n) r late e)
 
     pub normaliser-pointed : (room : ℕ) → normaliseInto (pointing collides) s n room ≡ refused r
         → Pointed (pointing collides) fromBits bitsIn sent r
     unfolding normaliseInto
     normaliser-pointed room e =
         let a = checked (pointing collides) s n in
-        check-pointed (normal-refused a r (room-passed (leb 104 room) (normalOf a) r late e))
+        check-pointed (normal-refused a r (room-passed (leb bytesNeeded room) (normalOf a) r late e))
 
   -- ---- values
 
   pub writer-pointed : (vs : List ℕ) (room : ℕ) → writeInto (pointing collides) vs room ≡ refused r
       → Pointed (pointing collides) fromValues valuesIn vs r
   unfolding writeInto
-  writer-pointed vs room e = write-pointed collides vs r (room-passed (leb 104 room) (write (pointing collides) vs) r late e)
+  writer-pointed vs room e = write-pointed collides vs r (room-passed (leb bytesNeeded room) (write (pointing collides) vs) r late e)
 
   pub label-pointed : (vs : List ℕ) (room : ℕ) → labelInto (pointing collides) vs room ≡ refused r
       → Pointed (pointing collides) fromValues valuesIn vs r
   unfolding labelInto
-  label-pointed vs room e = write-pointed collides vs r (room-passed (leb 830 room) (write (pointing collides) vs) r late e)
+  label-pointed vs room e = write-pointed collides vs r (room-passed (leb valuesNeeded room) (write (pointing collides) vs) r late e)

@@ -2,7 +2,6 @@
 use mathlib.Core.Path.{_≡_, ap}
 use mathlib.Core.List.{List}
 use Prim.Native.Nat.{ℕ, _≤_, _<_}
-use borrow.Author.Tests.{le-leb, lt-leb}
 use lib.ListN.{length}
 use Rattle.format.specs.Refusals.{inNumbers}
 use Rattle.format.specs.Rules.{paper}
@@ -13,8 +12,10 @@ use Rattle.format.specs.declared.Refusal.{Refusal}
 use Rattle.format.specs.declared.Answer.{Answer}
 use Rattle.format.specs.declared.Answer.the-variants.{Accepted, Refused}
 use Rattle.laws.proofs.Demand2.{write-is}
+use Rattle.states.specs.Reader.{early}
 use Rattle.states.specs.Writer.{writeInto, sizeOf, Write, Storing, Stored}
 use Rattle.states.proofs.Checking.{was-accepted, was-refused}
+use Rattle.states.proofs.Rooms.{with-room, without-room}
 
 -- a list that the writer accepts is the values of a telegram of n bits
 pub record Written (vs : List ℕ) (n : ℕ) : Type 0 where
@@ -31,14 +32,14 @@ written vs {a} {n} p q =
     record { entries = w .entries; is = w .is; telegram = t .0; same = t .1; size = w .counted }
 
 module _ (vs before : List ℕ) where
-  pub writes-roomless : length before < 104 → Write paper vs before (Refused (record { kind = Room; place = 0 })) before
+  pub writes-roomless : length before < 104 → Write paper vs before (Refused (early Room)) before
   unfolding writeInto
-  writes-roomless h = record { answers = rw (lt-leb 104 (length before) h); contents = rw (lt-leb 104 (length before) h) }
+  writes-roomless h = let e = without-room 104 (length before) (write paper vs) h in record { answers = rw e; contents = rw e }
 
   module _ (h : 104 ≤ length before) where
     into : writeInto paper vs (length before) ≡ write paper vs
     unfolding writeInto
-    into = rw (le-leb 104 (length before) h)
+    into = with-room 104 (length before) (write paper vs) h
 
     pub writes-refused : {a : Answer} {x : Refusal} → a ≡ sizeOf (write paper vs) → a ≡ Refused x → Write paper vs before a before
     writes-refused {a} {x} p q = record { answers = rw into (ap inNumbers p); contents = rw (into, was-refused bitCount (write paper vs) a x p q) }

@@ -9,7 +9,7 @@ use Rattle.format.specs.Table.{act, fieldAt, numberBy}
 use Rattle.format.specs.Telegrams.{Entry, Result, Telegram, all, values, write}
 use Rattle.format.specs.Telegrams.Result.{accepted, refused}
 use Rattle.format.specs.declared.Answer.{Answer}
-use Rattle.states.specs.Reader.{roomed}
+use Rattle.states.specs.Reader.{valuesNeeded, roomed}
 use Rattle.states.specs.Writer.{sizeOf}
 
 -- the number of each entry's field, in order of sending; the end mark's is END's
@@ -21,7 +21,7 @@ numbers es = all numbersIn es
 
 -- the writer without its bytes, lent a run of so many numbers; a telegram has at most 830 fields
 unfoldable pub labelInto : Terms → List ℕ → ℕ → Result
-labelInto p vs room = roomed 830 room (write p vs)
+labelInto p vs room = roomed valuesNeeded room (write p vs)
 
 -- the numbers in front, and behind them what was there; a refusal changes nothing
 abbrev pub numbersOver : Result → List ℕ → List ℕ

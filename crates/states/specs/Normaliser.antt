@@ -6,7 +6,7 @@ use Prim.Native.Nat.{ℕ, _*_, _%_, _^_, _<_, _≤_}
 use lib.Dec.{eqb, ltb}
 use lib.ListN.{length, take}
 use Rattle.bits.specs.Bits.{bitsOf, bytesFor}
-use Rattle.distance.specs.Steps.{decimetres, steps}
+use Rattle.distance.specs.Steps.{step, decimetres, steps}
 use Rattle.format.specs.Normal.{viewOf, choose, best, normal}
 use Rattle.format.specs.Normal.View.{kept, scales, measures}
 use Rattle.format.specs.Refusals.{inNumbers}
@@ -18,7 +18,7 @@ use Rattle.format.specs.declared.Answer.{Answer}
 use Rattle.distance.specs.Distance.{numberOf, inDecimetres, inSteps}
 use Rattle.distance.specs.declared.Scale.{Scale}
 use Rattle.distance.specs.declared.Told.the-variants.{Whole, Not}
-use Rattle.states.specs.Reader.{clear, checked, roomed}
+use Rattle.states.specs.Reader.{bytesNeeded, clear, checked, roomed}
 use Rattle.states.specs.Writer.{sizeOf, bytesOver}
 use Rattle.states.specs.declared.View.{View}
 use Rattle.states.specs.declared.View.the-variants.{Kept, Scales, Measures}
@@ -35,7 +35,7 @@ normalOf (refused r) = refused r
 
 -- the normaliser, lent so many bytes. "1: output shorter than .. 104 bytes"
 unfoldable pub normaliseInto : Terms → List ℕ → ℕ → ℕ → Result
-normaliseInto p s n room = roomed 104 room (normalOf (checked p s n))
+normaliseInto p s n room = roomed bytesNeeded room (normalOf (checked p s n))
 
 -- the promise of `normalise`: n, and the bytes of the normal form in front of what was there
 pub record Normalise (p : Terms) (s : List ℕ) (n : ℕ) (before : List ℕ) (answer : Answer) (after : List ℕ) : Type 0 where
@@ -85,7 +85,7 @@ converted q r v = wholeOr v (inSteps r (inDecimetres q v))
 
 -- "a whole number of metres that fits its field"
 abbrev pub inMetres : Scale → ℕ → ℕ → Bool
-inMetres q v w = eqb (decimetres (numberOf q) v % 10) 0 && ltb (steps 1 (decimetres (numberOf q) v)) (2 ^ w)
+inMetres q v w = eqb (decimetres (numberOf q) v % step 1) 0 && ltb (steps 1 (decimetres (numberOf q) v)) (2 ^ w)
 
 -- what a value says to telling the distances up to the next scale in metres
 abbrev pub lookOf : normals.View → Bool → Look

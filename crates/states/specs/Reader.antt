@@ -31,7 +31,14 @@ early k = record { kind = k; place = 0 }
 abbrev pub atOnce : Kind → Result
 atOnce k = refused (early k)
 
--- what comes of a call that is lent room for so many and needs so many. "1: output shorter than .."; "Order: 1, then .."
+-- "1: output shorter than 830 values or 104 bytes"
+abbrev pub valuesNeeded : ℕ
+valuesNeeded = 830
+
+abbrev pub bytesNeeded : ℕ
+bytesNeeded = 104
+
+-- what comes of a call that needs so many and is lent room for so many. "Order: 1, then .."
 abbrev pub roomed : ℕ → ℕ → Result → Result
 roomed need room r = cond (leb need room) r (atOnce Room)
 
@@ -39,9 +46,9 @@ roomed need room r = cond (leb need room) r (atOnce Room)
 unfoldable pub checked : Terms → List ℕ → ℕ → Result
 checked p s n = cond (sized s n) (cond (clear s n) (read p (take n (bitsOf s))) (atOnce Padding)) (atOnce Size)
 
--- the reader, lent a run of so many values. "1: output shorter than 830 values"
+-- the reader, lent a run of so many values
 unfoldable pub readInto : Terms → List ℕ → ℕ → ℕ → Result
-readInto p s n room = roomed 830 room (checked p s n)
+readInto p s n room = roomed valuesNeeded room (checked p s n)
 
 -- an answer: a count of an accepted telegram, or the refusal as it stands
 abbrev pub answered : (List Entry → ℕ) → Result → Answer

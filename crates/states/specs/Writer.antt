@@ -12,13 +12,13 @@ use Rattle.format.specs.Telegrams.{Entry, Result, Telegram, bits, bitCount, val
 use Rattle.format.specs.Telegrams.Result.{accepted, refused}
 use Rattle.format.specs.declared.Kind.the-variants.{Wide, Full}
 use Rattle.format.specs.declared.Answer.{Answer}
-use Rattle.states.specs.Reader.{roomed, answered}
+use Rattle.states.specs.Reader.{bytesNeeded, roomed, answered}
 use Rattle.states.specs.declared.Verdict.{Verdict}
 use Rattle.states.specs.declared.Verdict.the-variants.{Fine, Broken}
 
--- the writer, lent so many bytes. "1: output shorter than .. 104 bytes"
+-- the writer, lent so many bytes
 unfoldable pub writeInto : Terms → List ℕ → ℕ → Result
-writeInto p vs room = roomed 104 room (write p vs)
+writeInto p vs room = roomed bytesNeeded room (write p vs)
 
 -- "Gives n"
 abbrev pub sizeOf : Result → Answer

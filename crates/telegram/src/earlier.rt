@@ -21,7 +21,7 @@ use states::Todo;
 use states::codes::DIRECTION;
 
 // The fields of a header, which are as many values.
-const FRONT: usize = 10;
+pub(crate) const FRONT: usize = 10;
 
 // Whether v is the Q_DIR of a packet that collides with one before it, in the bits of s.
 pub(crate) fn repeated_in_bits(rows: &[u16; 213], s: &[u8], st: State, v: u64) -> bool

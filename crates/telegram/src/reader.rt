@@ -15,6 +15,7 @@ use crate::answer::refuse;
 use crate::answer::refused;
 use crate::driver::drift;
 use crate::driver::ease;
+use crate::earlier::FRONT;
 use crate::earlier::repeated_in_bits;
 use crate::head::leading;
 use crate::machine::fresh;
@@ -87,7 +88,7 @@ fn scan(s: &[u8], n: usize) -> Answer
     let mut count: usize = 0;
     if let Begun::To(after) = header(s, n) {
         st = after;
-        count = 10;
+        count = FRONT;
     }
     walk(&rows, s, n, st, count)
 }

@@ -1,7 +1,7 @@
 //! What the proved library's round trips have to answer and to leave: read and written again,
 //! written and read again, normalised twice, and two telegrams compared by their normal forms;
-//! each first where there is too little room for the second step, and then with room. Every
-//! room is tested first, and a refusal leaves everything lent as it was.
+//! each with too little room in the one buffer, in the other, and then with just enough in both.
+//! Every room is tested first, and a refusal leaves everything lent as it was.
 
 use plain::{check, normalise, read, write, Refusal, MAX_BYTES, MAX_VALUES};
 
@@ -39,15 +39,15 @@ fn rewrites() {
         (none, u64::MAX),
         (STOP, 154),
     ] {
-        for (name, bytes) in [("rewritten in 103 bytes", 103), ("rewritten", 106)] {
-            let (mut run, mut out) = ([VALUE; 832], vec![BYTE; bytes]);
-            let answer = roomed(run.len(), bytes, || {
-                let count = read(s, n, &mut run)?;
-                write(&run[..count], &mut out)
+        for (values, bytes) in [(829, 104), (830, 103), (830, 104)] {
+            let (mut run, mut out) = ([VALUE; 832], [BYTE; 106]);
+            let answer = roomed(values, bytes, || {
+                let count = read(s, n, &mut run[..values])?;
+                write(&run[..count], &mut out[..bytes])
             });
-            print!("{name} of {n}:");
+            print!("rewritten of {n}, lent {values} and {bytes}:");
             show(answer);
-            show_run(&run);
+            show_values(&run);
             show_bytes(&out);
         }
     }
@@ -57,31 +57,34 @@ fn rereads() {
     let mut version = VALUES;
     version[1] = 33;
     for list in [&VALUES[..11], &version[..11], &VALUES[..10], &VALUES[..12]] {
-        for (name, values) in [("reread in 829 values", 829), ("reread", 832)] {
-            let (mut run, mut out) = (vec![VALUE; values], [BYTE; 106]);
-            let answer = roomed(values, out.len(), || {
-                let n = write(list, &mut out)?;
+        for (bytes, values) in [(103, 830), (104, 829), (104, 830)] {
+            let (mut run, mut out) = ([VALUE; 832], [BYTE; 106]);
+            let answer = roomed(values, bytes, || {
+                let n = write(list, &mut out[..bytes])?;
                 let long = n.div_ceil(8) as usize;
-                Ok(read(&out[..long], n, &mut run)? as u64)
+                Ok(read(&out[..long], n, &mut run[..values])? as u64)
             });
-            print!("{name} of {}:", list.len());
+            print!("reread of {}, lent {bytes} and {values}:", list.len());
             show(answer);
-            show_run(&run);
             show_bytes(&out);
+            show_values(&run);
         }
     }
 }
 
+/// Bytes lent for a first and for a second normal form.
+const BYTES: [(usize, usize); 3] = [(103, 104), (104, 103), (104, 104)];
+
 fn renormalises() {
     for n in [LONG, LONG - 1, LONG + 1] {
-        for (name, bytes) in [("renormalised in 103 bytes", 103), ("renormalised", 106)] {
-            let (mut x, mut y) = ([BYTE; 106], vec![BYTE; bytes]);
-            let answer = roomed(MAX_VALUES, bytes, || {
-                normalise(TENS, n, &mut x)?;
-                normalise(&x[..TENS.len()], n, &mut y)?;
+        for (first, second) in BYTES {
+            let (mut x, mut y) = ([BYTE; 106], [BYTE; 106]);
+            let answer = roomed(MAX_VALUES, first.min(second), || {
+                normalise(TENS, n, &mut x[..first])?;
+                normalise(&x[..TENS.len()], n, &mut y[..second])?;
                 Ok(n)
             });
-            print!("{name} of {n}:");
+            print!("renormalised of {n}, lent {first} and {second}:");
             show(answer);
             show_bytes(&x);
             show_bytes(&y);
@@ -90,17 +93,18 @@ fn renormalises() {
 }
 
 fn compares() {
-    for (s, t) in [
-        (TENS, METRES),
-        (TENS, FURTHER),
-        (TENS, UNCLEAR),
-        (UNCLEAR, TENS),
-        (UNCLEAR, UNCLEAR),
+    for (s, t, m) in [
+        (TENS, METRES, LONG),
+        (TENS, FURTHER, LONG),
+        (TENS, MARK, 58),
+        (TENS, UNCLEAR, LONG),
+        (UNCLEAR, TENS, LONG),
+        (UNCLEAR, UNCLEAR, LONG),
     ] {
-        for (name, bytes) in [("says_same in 103 bytes", 103), ("says_same", 106)] {
-            let (mut x, mut y) = ([BYTE; 106], vec![BYTE; bytes]);
-            print!("{name}:");
-            compare(s, t, &mut x, &mut y);
+        for (first, second) in BYTES {
+            let (mut x, mut y) = ([BYTE; 106], [BYTE; 106]);
+            print!("says_same of {LONG} and {m}, lent {first} and {second}:");
+            compare(s, t, m, &mut x[..first], &mut y[..second]);
             show_bytes(&x);
             show_bytes(&y);
         }
@@ -108,14 +112,14 @@ fn compares() {
 }
 
 /// Both rooms, then both telegrams, and then their normal forms.
-fn compare(s: &[u8], t: &[u8], x: &mut [u8], y: &mut [u8]) {
+fn compare(s: &[u8], t: &[u8], m: u64, x: &mut [u8], y: &mut [u8]) {
     let first = roomed(MAX_VALUES, x.len(), || Ok(0));
     let second = roomed(MAX_VALUES, y.len(), || Ok(0));
     let answers = [
         ("first", first),
         ("second", second),
         ("first", check(s, LONG).map(|_| 0)),
-        ("second", check(t, LONG).map(|_| 0)),
+        ("second", check(t, m).map(|_| 0)),
     ];
     for (which, answer) in answers {
         if answer.is_err() {
@@ -123,7 +127,7 @@ fn compare(s: &[u8], t: &[u8], x: &mut [u8], y: &mut [u8]) {
             return show(answer);
         }
     }
-    let both = normalise(s, LONG, x).and_then(|()| normalise(t, LONG, y));
+    let both = normalise(s, LONG, x).and_then(|()| normalise(t, m, y));
     assert!(both.is_ok(), "what is accepted has a normal form");
     println!("{}", if x == y { " same" } else { " other" });
 }
@@ -148,7 +152,7 @@ fn show(answer: Result<u64, Refusal>) {
     }
 }
 
-fn show_run(run: &[u64]) {
+fn show_values(run: &[u64]) {
     for (i, value) in run.iter().enumerate().filter(|(_, value)| **value != VALUE) {
         print!(" {i}={value}");
     }
@@ -156,8 +160,8 @@ fn show_run(run: &[u64]) {
 }
 
 fn show_bytes(bytes: &[u8]) {
-    for byte in bytes {
-        print!(" {byte:02x}");
+    for (i, byte) in bytes.iter().enumerate().filter(|(_, byte)| **byte != BYTE) {
+        print!(" {i}={byte}");
     }
     println!();
 }

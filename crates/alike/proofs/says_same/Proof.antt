@@ -42,16 +42,10 @@ check-requires-2 c κs = search needs
 enum-known-r-2 : tie.Need-enum-known-r-2
 enum-known-r-2 c = search needs
 
-returns-4 : tie.Need-returns-4
-returns-4 c =
-    let a = c .before .before .before .before .before .before .before .before .before .before .before .before .before .args in
-    second-refused paper (now (a .s)) (a .n) (now (a .t)) (a .m) (now (a .x)) (now (a .y)) (omega (arith, c .before .before .before .before .before .before .before .before .if1 .left)) (omega (arith, c .before .before .before .before .before .before .before .if2 .left))
-    (answer-accepted (checked paper (now (a .s)) (a .n)) _ .0 (sym (c .before .before .before .before .enum-told .given .1) ∙ answer-is _ _ (c .before .before .before .before .before .before .check .ensures)) .1)
-    (answer-refused (checked paper (now (a .t)) (a .m)) _ .0 (sym (c .before .r2 .given .1) ∙ answer-is _ _ (c .before .before .before .check2 .ensures)))
-
 enum-told-2 : tie.Need-enum-told-2
 enum-told-2 c = search needs
 
+-- before the need that follows: without the check of the second telegram this is what fails
 compared-requires : tie.Need-compared-requires
 compared-requires c κs =
     let a = c .before .before .before .before .before .before .before .before .before .before .before .before .before .before .args in
@@ -60,6 +54,13 @@ compared-requires c κs =
       record { entries = f .0; accepts = f .1; room = omega (arith, c .before .before .before .before .before .before .before .before .before .if1 .left) },
       record { entries = g .0; accepts = g .1; room = omega (arith, c .before .before .before .before .before .before .before .before .if2 .left) },
     )
+
+returns-4 : tie.Need-returns-4
+returns-4 c =
+    let a = c .before .before .before .before .before .before .before .before .before .before .before .before .before .args in
+    second-refused paper (now (a .s)) (a .n) (now (a .t)) (a .m) (now (a .x)) (now (a .y)) (omega (arith, c .before .before .before .before .before .before .before .before .if1 .left)) (omega (arith, c .before .before .before .before .before .before .before .if2 .left))
+    (answer-accepted (checked paper (now (a .s)) (a .n)) _ .0 (sym (c .before .before .before .before .enum-told .given .1) ∙ answer-is _ _ (c .before .before .before .before .before .before .check .ensures)) .1)
+    (answer-refused (checked paper (now (a .t)) (a .m)) _ .0 (sym (c .before .r2 .given .1) ∙ answer-is _ _ (c .before .before .before .check2 .ensures)))
 
 same-length : tie.Need-same-length
 same-length c = search needs

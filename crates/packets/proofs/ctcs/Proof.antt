@@ -1,4 +1,4 @@
--- `packets::ctcs` meets its contract: at each identifier the checker computes where the packet begins, and any other has none.
+-- `packets::ctcs` meets its contract: at each identifier the kind promises where the packet begins, and any other has none.
 -- Assumes nothing.
 use mathlib.Core.Path.{sym, ap, _∙_}
 use borrow.Author.Needs.{needs}
@@ -24,23 +24,18 @@ new-requires-5 : tie.Need-new-requires-5
 new-requires-5 c κs = search needs
 
 returns : tie.Need-returns
-unfolding ctcsStart
 returns c = c .before .new .ensures ∙ sym (ap ctcsStart (c .before .before .match .keys1))
 
 returns-2 : tie.Need-returns-2
-unfolding ctcsStart
 returns-2 c = c .before .new2 .ensures ∙ sym (ap ctcsStart (c .before .before .match .keys2))
 
 returns-3 : tie.Need-returns-3
-unfolding ctcsStart
 returns-3 c = c .before .new3 .ensures ∙ sym (ap ctcsStart (c .before .before .match .keys3))
 
 returns-4 : tie.Need-returns-4
-unfolding ctcsStart
 returns-4 c = c .before .new4 .ensures ∙ sym (ap ctcsStart (c .before .before .match .keys4))
 
 returns-5 : tie.Need-returns-5
-unfolding ctcsStart
 returns-5 c = c .before .new5 .ensures ∙ sym (ap ctcsStart (c .before .before .match .keys5))
 
 returns-6 : tie.Need-returns-6

@@ -1,4 +1,4 @@
--- `packets::etcs` meets its contract: at each identifier the checker computes where the packet begins, and any other has none.
+-- `packets::etcs` meets its contract: at each identifier the kind promises where the packet begins, and any other has none.
 -- Assumes nothing.
 use mathlib.Core.Path.{sym, ap, _∙_}
 use borrow.Author.Needs.{needs}
@@ -51,59 +51,45 @@ new-requires-14 : tie.Need-new-requires-14
 new-requires-14 c κs = search needs
 
 returns : tie.Need-returns
-unfolding etcsStart
 returns c = c .before .new .ensures ∙ sym (ap etcsStart (c .before .before .match .keys1))
 
 returns-2 : tie.Need-returns-2
-unfolding etcsStart
 returns-2 c = c .before .new2 .ensures ∙ sym (ap etcsStart (c .before .before .match .keys2))
 
 returns-3 : tie.Need-returns-3
-unfolding etcsStart
 returns-3 c = c .before .new3 .ensures ∙ sym (ap etcsStart (c .before .before .match .keys3))
 
 returns-4 : tie.Need-returns-4
-unfolding etcsStart
 returns-4 c = c .before .new4 .ensures ∙ sym (ap etcsStart (c .before .before .match .keys4))
 
 returns-5 : tie.Need-returns-5
-unfolding etcsStart
 returns-5 c = c .before .new5 .ensures ∙ sym (ap etcsStart (c .before .before .match .keys5))
 
 returns-6 : tie.Need-returns-6
-unfolding etcsStart
 returns-6 c = c .before .new6 .ensures ∙ sym (ap etcsStart (c .before .before .match .keys6))
 
 returns-7 : tie.Need-returns-7
-unfolding etcsStart
 returns-7 c = c .before .new7 .ensures ∙ sym (ap etcsStart (c .before .before .match .keys7))
 
 returns-8 : tie.Need-returns-8
-unfolding etcsStart
 returns-8 c = c .before .new8 .ensures ∙ sym (ap etcsStart (c .before .before .match .keys8))
 
 returns-9 : tie.Need-returns-9
-unfolding etcsStart
 returns-9 c = c .before .new9 .ensures ∙ sym (ap etcsStart (c .before .before .match .keys9))
 
 returns-10 : tie.Need-returns-10
-unfolding etcsStart
 returns-10 c = c .before .new10 .ensures ∙ sym (ap etcsStart (c .before .before .match .keys10))
 
 returns-11 : tie.Need-returns-11
-unfolding etcsStart
 returns-11 c = c .before .new11 .ensures ∙ sym (ap etcsStart (c .before .before .match .keys11))
 
 returns-12 : tie.Need-returns-12
-unfolding etcsStart
 returns-12 c = c .before .new12 .ensures ∙ sym (ap etcsStart (c .before .before .match .keys12))
 
 returns-13 : tie.Need-returns-13
-unfolding etcsStart
 returns-13 c = c .before .new13 .ensures ∙ sym (ap etcsStart (c .before .before .match .keys13))
 
 returns-14 : tie.Need-returns-14
-unfolding etcsStart
 returns-14 c = c .before .new14 .ensures ∙ sym (ap etcsStart (c .before .before .match .keys14))
 
 returns-15 : tie.Need-returns-15
