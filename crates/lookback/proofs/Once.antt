@@ -3,9 +3,13 @@ use mathlib.Core.Path.{refl, sym, _∙_}
 use Rattle.bits.proofs.Once.{OneOutcome}
 use Rattle.lookback.proofs.collides_in_bits
 use Rattle.lookback.proofs.row_meets
+use Rattle.lookback.proofs.state_collides
 
 pub collides-once : OneOutcome collides_in_bits.ended collides_in_bits.Reads.Post
 collides-once κs args r t u v p q = (p ∙ sym q, refl)
+
+pub state-collides-once : OneOutcome state_collides.ended state_collides.Reads.Post
+state-collides-once κs args r t u v p q = (p ∙ sym q, refl)
 
 pub row-meets-once : OneOutcome row_meets.ended row_meets.Reads.Post
 row-meets-once κs args r t u v p q = (p ∙ sym q, refl)

@@ -12,8 +12,8 @@ use crate::rows::act;
 use crate::rows::code;
 use crate::todo::advance;
 use clashes::exempt;
-use lookback::collides_in_bits;
 use lookback::row_meets;
+use lookback::state_collides;
 use states::Ahead;
 use states::Level;
 use states::State;
@@ -31,7 +31,7 @@ pub(crate) fn repeated_in_bits(rows: &[u16; 213], s: &[u8], st: State, v: u64) -
     if !directing(rows, st) {
         return false;
     }
-    collides_in_bits(s, st.start, st.id, v)
+    state_collides(s, st, v)
 }
 
 // Whether v, which is the value number i, is the Q_DIR of a packet that collides with one before it.

@@ -11,11 +11,11 @@ directing-requires c κs = search needs
 returns : tie.Need-returns
 returns c = repeats-not (c .before .before .before .args .st) (c .before .before .before .args .v) _ (c .before .directing .ensures) (not-true _ (c .if1 .taken))
 
-collides-in-bits-requires : tie.Need-collides-in-bits-requires
-collides-in-bits-requires c κs = search needs
+state-collides-requires : tie.Need-state-collides-requires
+state-collides-requires c κs = search needs
 
 returns-2 : tie.Need-returns-2
-returns-2 c = repeats-by (c .before .before .before .before .args .st) (c .before .before .before .before .args .v) _ (c .before .before .directing .ensures) (not-false _ (c .before .if1 .left)) (c .collides-in-bits .ensures)
+returns-2 c = repeats-by (c .before .before .before .before .args .st) (c .before .before .before .before .args .v) _ (c .before .before .directing .ensures) (not-false _ (c .before .if1 .left)) (c .state-collides .ensures)
 
 pub repeated-in-bits-spec : {M : Type 1} → statement M
-repeated-in-bits-spec = tie.close (tie.spec directing-requires returns collides-in-bits-requires returns-2)
+repeated-in-bits-spec = tie.close (tie.spec directing-requires returns state-collides-requires returns-2)
