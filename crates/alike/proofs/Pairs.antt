@@ -1,4 +1,4 @@
--- Two telegrams compared by their normal forms, by what the check and the normaliser promise alone: bytes of n bits are known by those bits. For any
+-- Two telegrams compared by their normal forms, by what the check and the normaliser promise alone: no two telegrams have the same bytes. For any
 -- terms. Assumes nothing.
 use mathlib.Core.Bool.{Bool, true, false, cond, _&&_}
 use mathlib.Core.List.{List, [], _∷_}
@@ -9,22 +9,21 @@ use native.Mathlib.Omega.{arith}
 use borrow.Author.Tests.{eqb-true, eq-eqb, le-leb, lt-leb}
 use lib.Dec.{eqb}
 use lib.ListN.{length, take}
-use Rattle.bits.specs.Bits.{bitsOf, bytesOf, bytesFor, Below, same}
-use Rattle.bits.proofs.Bytes.{take-bitsOf-bytesOf}
+use Rattle.bits.specs.Bits.{bytesOf, bytesFor, same}
 use Rattle.format.specs.Rules.{Terms}
 use Rattle.format.specs.Telegrams.{Entry, bits}
 use Rattle.format.specs.Telegrams.Result.{accepted, refused}
 use Rattle.format.specs.declared.Kind.the-variants.{Room}
 use Rattle.format.specs.declared.Refusal.{Refusal}
 use Rattle.format.specs.declared.Answer.{Answer}
-use Rattle.laws.proofs.Demand2.{below-bits}
 use Rattle.states.specs.Reader.{early, checked}
 use Rattle.states.specs.Normaliser.{Normalise}
+use Rattle.states.proofs.Accepting.{one-telegram}
 use Rattle.normals.specs.Normals.{Ready}
 use Rattle.alike.specs.Pairs.{pairInto, SaysSame}
 use Rattle.alike.specs.Pairs.Pair.{both}
 use Rattle.alike.specs.declared.Alike.the-variants.{Same, Other, First, Second}
-use Rattle.normals.proofs.Forms.{form, bits-long, holds, front}
+use Rattle.normals.proofs.Forms.{form, form-telegram, bits-long, holds, front}
 
 -- ---- lists compared
 
@@ -52,11 +51,6 @@ same-false bs cs d = by-test (same bs cs) refl
 -- a flag is not both
 pub unlike : {t : Bool} → t ≡ true → t ≡ false → ⊥
 unlike h e = let z : _≡_ {A = ℕ} 0 1 = cc in omega arith
-
--- bytes of as many bits are the same just where the bits are
-same-bytes : (bs cs : List ℕ) → Below 2 bs → Below 2 cs → length bs ≡ length cs → bytesOf bs ≡ bytesOf cs → bs ≡ cs
-same-bytes bs cs b c l h =
-    sym (take-bitsOf-bytesOf bs b) ∙ ap₂ (λ (k : ℕ) (s : List ℕ). take k (bitsOf s)) l h ∙ take-bitsOf-bytesOf cs c
 
 -- ---- one of the two is refused, or has no room
 
@@ -117,9 +111,8 @@ module _ (p : Terms) (s : List ℕ) (n : ℕ) (t : List ℕ) (m : ℕ) (x y : Li
 
       pub found-same : take l x-after ≡ take l y-after → SaysSame p s n t m x y Same x-after y-after
       found-same q =
-          let long = bits-long p s n x g ∙ z ∙ sym (bits-long p t m y f) in
           let u : ones ≡ others =
-          same-bytes ones others (below-bits (form p s n x g)) (below-bits (form p t m y f)) long (sym one-front ∙ q ∙ other-front) in
+          ap bits (one-telegram p _ _ (form-telegram p s n x g) (form-telegram p t m y f) (sym one-front ∙ q ∙ other-front)) in
           compares true (ap (same ones) (sym u) ∙ same-self ones)
 
       pub found-other : take l x-after ≢ take l y-after → SaysSame p s n t m x y Other x-after y-after

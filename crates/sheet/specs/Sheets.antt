@@ -8,13 +8,13 @@ use lib.Dec.{eqb, leb}
 use lib.ListN.{length, drop}
 use Rattle.format.specs.Refusals as refusals
 use Rattle.format.specs.Rules.{Terms}
-use Rattle.format.specs.Telegrams.{Entry, Result, bits, bitCount, values, write}
+use Rattle.format.specs.Telegrams.{Entry, Result, bitCount, values, write}
 use Rattle.format.specs.Telegrams.Result.{accepted, refused}
 use Rattle.format.specs.declared.Kind.the-variants.{Room}
 use Rattle.format.specs.declared.Refusal.{Refusal}
-use Rattle.bits.specs.Bits.{bytesOf}
 use Rattle.states.specs.Labels.{numbers}
 use Rattle.states.specs.Reader.{bytesNeeded, early, roomed, checked}
+use Rattle.states.specs.Writer as writer
 use Rattle.sheet.specs.Rows.{sheetText}
 use Rattle.sheet.specs.Reading.{Rows, sheetIn}
 use Rattle.sheet.specs.Reading.Rows.{rows, bad}
@@ -99,7 +99,7 @@ sizeOf (refusedBy r) = Refused r
 sizeOf (refusedAt k) = Row k
 
 abbrev pub bytesOver : Imported → List ℕ → List ℕ
-bytesOver (taken es) before = bytesOf (bits es) ++ drop (length (bytesOf (bits es))) before
+bytesOver (taken es) before = writer.bytesOver (accepted es) before
 bytesOver (refusedBy r) before = before
 bytesOver (refusedAt k) before = before
 
