@@ -5,8 +5,7 @@ use mathlib.Core.Path.{_≡_, ap, _∙_}
 use Prim.Native.Nat.{ℕ}
 use lib.ListN.{length}
 use Rattle.format.specs.Rules.{Terms}
-use Rattle.format.specs.Telegrams.{Entry, Result}
-use Rattle.format.specs.Telegrams.Result.{refused}
+use Rattle.format.specs.Telegrams.{Result}
 use Rattle.format.specs.declared.Answer.{Answer}
 use Rattle.format.specs.declared.Answer.the-variants.{Refused}
 use Rattle.format.specs.declared.Refusal.{Refusal}
