@@ -1,0 +1,19 @@
+-- Each promise of this crate is met by one answer alone. Assumes nothing.
+use mathlib.Core.Path.{refl, sym, _∙_}
+use Rattle.bits.proofs.Once.{OneOutcome}
+use Rattle.headers.proofs.field
+use Rattle.headers.proofs.identity
+use Rattle.headers.proofs.belongs
+use Rattle.headers.proofs.same_body
+
+pub field-once : OneOutcome field.ended field.Reads.Post
+field-once κs args r t u v p q = (p ∙ sym q, refl)
+
+pub identity-once : OneOutcome identity.ended identity.Reads.Post
+identity-once κs args r t u v p q = (p ∙ sym q, refl)
+
+pub belongs-once : OneOutcome belongs.ended belongs.Reads.Post
+belongs-once κs args r t u v p q = (p ∙ sym q, refl)
+
+pub same-body-once : OneOutcome same_body.ended same_body.Reads.Post
+same-body-once κs args r t u v p q = (p ∙ sym q, refl)

@@ -1,0 +1,2 @@
+-- What a reader of this crate's promises must believe.
+pub mod Headers

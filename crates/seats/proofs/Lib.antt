@@ -1,0 +1,3 @@
+-- Why the functions of this crate are right, and one answer to each promise.
+pub mod Along
+pub mod Once

@@ -1,0 +1,29 @@
+-- Telegrams one behind the other, looked for by their N_PIG. Definitions alone.
+use mathlib.Core.Bool.{cond}
+use mathlib.Core.List.{List, [], _∷_}
+use Prim.Native.Nat.{ℕ, _+_, min}
+use lib.Dec.{eqb}
+use lib.ListN.{length, drop}
+use Rattle.bits.specs.Bits.{bytesFor}
+use Rattle.headers.specs.Headers.{numberAt}
+use Rattle.seats.specs.declared.Seat.{Seat}
+
+-- the N_PIG of the telegram in front of these bytes: 3 bits from bit 9 on
+abbrev pub pigOf : List ℕ → ℕ
+pigOf u = numberAt u 58 9 3
+
+-- how many have this N_PIG, each of them in its ceil(n / 8) bytes
+unfoldable pub tallied : ℕ → List ℕ → List ℕ → ℕ
+tallied k u [] = 0
+tallied k u (n ∷ ns) = cond (eqb (pigOf u) k) 1 0 + tallied k (drop (bytesFor n) u) ns
+
+-- where the first of them stands, if the first of all stands at the byte start
+unfoldable pub seatFrom : ℕ → ℕ → List ℕ → List ℕ → Seat
+seatFrom k start u [] = record { start = 0; n = 0 }
+seatFrom k start u (n ∷ ns) =
+    cond (eqb (pigOf u) k)
+    (record { start = start; n = n })
+    (seatFrom k (start + min (bytesFor n) (length u)) (drop (bytesFor n) u) ns)
+
+abbrev pub seatOf : List ℕ → List ℕ → ℕ → Seat
+seatOf s ns k = seatFrom k 0 s ns

@@ -1,0 +1,77 @@
+// Where the telegrams of a group stand in their buffer: each is found by its N_PIG, by adding up the bytes of those that lie before it.
+//
+// No function asks anything of its caller: a list of any length, with any n, over any bytes has its answer.
+ghost use mathlib.Core.Path.{_≡_};
+ghost use mathlib.Core.Bool.{cond};
+ghost use Prim.Native.Nat.{_+_, _-_, min};
+ghost use lib.ListN.{drop};
+ghost use Rattle.bits.specs.Bits.{bytesFor};
+ghost use Rattle.headers.specs.Headers.{numberAt};
+ghost use Rattle.seats.specs.Seats.{pigOf, tallied, seatOf};
+use bits::bytes_for;
+use headers::field;
+
+// Where a telegram stands: its first byte, and how many bits it has.
+pub struct Seat {
+    pub start: usize,
+    pub n: usize,
+}
+
+// Where the n bits from the byte start on end, of so many bytes: where they do, if they are not all there.
+pub fn behind(all: usize, start: usize, n: usize) -> usize
+    ensures { λ r. ⌜ r ≡ start + min (bytesFor n) (all - start) ⌝ }
+{
+    if all < start {
+        return start;
+    }
+    let k = bytes_for(n);
+    if all - start < k {
+        return all;
+    }
+    start + k
+}
+
+// The N_PIG of the telegram at the byte start.
+pub fn pig(s: &[u8], start: usize) -> u64
+    ensures { λ r. ⌜ r ≡ pigOf (drop start (now (s .entry))) ⌝ }
+{
+    field(s, start, 58, 9, 3)
+}
+
+// How many telegrams have this N_PIG.
+pub fn tally(s: &[u8], ns: &[usize], k: u64) -> usize
+    ensures { λ r. ⌜ r ≡ tallied k (now (s .entry)) (now (ns .entry)) ⌝ }
+{
+    let mut i = 0;
+    let mut start = 0;
+    let mut count = 0;
+    while i < ns.len() {
+        count += one(pig(s, start) == k);
+        start = behind(s.len(), start, ns[i]);
+        i += 1;
+    }
+    count
+}
+
+fn one(b: bool) -> usize
+    ensures { λ r. ⌜ r ≡ cond b 1 0 ⌝ }
+{
+    if b { 1 } else { 0 }
+}
+
+// Where the first telegram with this N_PIG stands; no bits at byte 0 if there is none.
+pub fn seek(s: &[u8], ns: &[usize], k: u64) -> Seat
+    ensures { λ r. ⌜ r ≡ seatOf (now (s .entry)) (now (ns .entry)) k ⌝ }
+{
+    let mut i = 0;
+    let mut start = 0;
+    while i < ns.len() {
+        let n = ns[i];
+        if pig(s, start) == k {
+            return Seat { start, n };
+        }
+        start = behind(s.len(), start, n);
+        i += 1;
+    }
+    Seat { start: 0, n: 0 }
+}

@@ -1,0 +1,15 @@
+-- Each promise of this crate is met by one answer alone. Assumes nothing.
+use mathlib.Core.Path.{refl, sym, _∙_}
+use Rattle.bits.proofs.Once.{OneOutcome}
+use Rattle.sightings.proofs.head
+use Rattle.sightings.proofs.shared
+use Rattle.sightings.proofs.joined
+
+pub head-once : OneOutcome head.ended head.Reads.Post
+head-once κs args r t u v p q = (p ∙ sym q, refl)
+
+pub shared-once : OneOutcome shared.ended shared.Reads.Post
+shared-once κs args r t u v p q = (p ∙ sym q, refl)
+
+pub joined-once : OneOutcome joined.ended joined.Reads.Post
+joined-once κs args r t u v p q = (p ∙ sym q, refl)

@@ -1,0 +1,33 @@
+-- Packets' heads in bytes, and ways that packets of one kind go. Definitions alone.
+use mathlib.Core.Bool.{Bool, true, false, cond, not, _&&_, _||_}
+use mathlib.Core.List.{List}
+use Prim.Native.Nat.{ℕ}
+use lib.Dec.{eqb}
+use Rattle.bits.specs.Take.{takeAt}
+use Rattle.bits.specs.declared.Taken.{Taken}
+use Rattle.bits.specs.declared.Taken.the-variants.{Field, Short}
+use Rattle.states.specs.Lookback.{idIn, dirIn, longIn}
+use Rattle.sightings.specs.declared.Sighting.{Sighting}
+use Rattle.sightings.specs.declared.Sighting.the-variants.{Packet, Nothing}
+
+-- the three numbers of a head
+abbrev pub headOf : Taken → Sighting
+headOf (Field a c) = Packet (idIn a) (dirIn a) (longIn a)
+headOf Short = Nothing
+
+-- the head of 23 bits at a bit, ending by the bit stop
+abbrev pub headAt : List ℕ → ℕ → ℕ → Sighting
+headAt u stop at = headOf (takeAt u stop 23 at)
+
+-- 0 is no way, 1 that of Q_DIR 0, 2 that of Q_DIR 1, 3 both: a packet with Q_DIR 0 goes one of these unless they are none or just the other, and
+-- so does one with Q_DIR 1; one that goes both ways does unless they are none
+abbrev pub sharedBy : ℕ → ℕ → Bool
+sharedBy ways dir = not (eqb ways 0) && cond (eqb dir 0) (not (eqb ways 2)) (cond (eqb dir 1) (not (eqb ways 1)) true)
+
+-- with a single way
+abbrev pub besides : ℕ → ℕ → ℕ
+besides ways way = cond (eqb ways 0 || eqb ways way) way 3
+
+-- with those of a packet
+abbrev pub joinedBy : ℕ → ℕ → ℕ
+joinedBy ways dir = cond (eqb dir 0) (besides ways 1) (cond (eqb dir 1) (besides ways 2) 3)
