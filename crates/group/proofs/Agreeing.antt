@@ -14,7 +14,7 @@ use Rattle.format.specs.Rules.{paper}
 use Rattle.format.specs.Telegrams.{Entry}
 use Rattle.group.specs.Groups.{Part, held, sameIn, agree, every, pairwise, standing, once, grouped, inOrder, matches, counted, arrived, parts}
 use Rattle.group.specs.Groups.Arrived.{all}
-use Rattle.group.specs.Walks.{Arrives, Lineup, Front, Seated, telegramsOf, alike, chief, seated, lineOf, meet, latest}
+use Rattle.group.specs.Walks.{Arrives, Lineup, Front, Seated, telegramsOf, alike, chief}
 use Rattle.group.proofs.Arrival.{first-of, once-at, grouped-once}
 use Rattle.group.proofs.Held.{front-held, front-headed}
 use Rattle.group.proofs.Walking.{Along, Turn, along-first, along-turn, along-end}

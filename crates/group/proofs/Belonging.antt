@@ -2,7 +2,7 @@
 use mathlib.Core.Bool.{Bool, true, false, cond, _&&_}
 use mathlib.Core.List.{List, [], _∷_}
 use mathlib.Core.Path.{_≡_, refl, sym, ap, ap₂, _∙_}
-use Prim.Native.Nat.{ℕ, zero, suc, _+_, _-_, _*_, _/_, _%_, _^_, _≤_, _<_}
+use Prim.Native.Nat.{ℕ, zero, suc, _+_, _-_, _*_, _/_, _%_, _^_, _≤_, _<_, min}
 use native.Mathlib.Nat.{div-div-eq-div-mul}
 use native.Mathlib.Omega.{arith}
 use borrow.Author.Tests.{eq-eqb, ne-eqb, eqb-true, eqb-false}
@@ -190,8 +190,12 @@ module _ {s ns : List ℕ} (a : Arrives s ns) (few : 0 < length ns) where
         g .same ∙ ap (every (likeIn (chief ts) (length ns - 1))) (t .now)
         ∙ ap (λ (x : Bool). x && every (likeIn (chief ts) (length ns - 1)) (telegramsOf (drop (start + bytesFor (getD ns i 0)) s) (drop (i + 1) ns))) (sym r)
 
-    pub comparing-on : test ≡ true → Comparing s ns (i + 1) (start + bytesFor (getD ns i 0))
-    comparing-on e = record { along = along-turn (g .along) h .next; same = compared ∙ rw e }
+    pub comparing-on : test ≡ true → (e : ℕ) → e ≡ start + min (bytesFor (getD ns i 0)) (length s - start) → Comparing s ns (i + 1) e
+    comparing-on e x q =
+        let t = along-turn (g .along) h in
+        let r = t .room in
+        let j : x ≡ start + bytesFor (getD ns i 0) = omega arith in
+        rw j (record { along = t .next; same = compared ∙ rw e })
 
     pub comparing-fails : test ≡ false → false ≡ alike ts
     comparing-fails e = sym (compared ∙ rw e)

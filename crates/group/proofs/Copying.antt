@@ -13,6 +13,7 @@ use lib.Seq.{take-all, drop-drop, length-take-le}
 use Rattle.bits.specs.Bits.{bitsOf, bytesFor, same}
 use Rattle.bits.proofs.Bytes.{length-bitsOf}
 use Rattle.headers.specs.Headers.{sameBodies}
+use Rattle.seats.specs.Seats.{seatOf, samePackets}
 use Rattle.format.specs.Fields.{M-DUP}
 use Rattle.format.specs.Rules.{paper}
 use Rattle.format.specs.Telegrams.{Entry, bits}
@@ -22,7 +23,7 @@ use Rattle.group.specs.declared.Found.the-variants.{At, Nowhere}
 use Rattle.group.specs.Groups.{held, body, copyOf, first, namesRight, miscopied, linked, inOrder}
 use Rattle.group.specs.Walks.{Lineup, Seated, Front, telegramsOf, seated, lineOf, preceding, following, foundOf}
 use Rattle.group.proofs.Held.{front-bits, front-sound, front-size}
-use Rattle.group.proofs.Lining.{line-turn, line-end, line-first, seat-is}
+use Rattle.group.proofs.Lining.{line-turn, line-end, line-first, line-seat, seat-is}
 
 -- ---- the same bits
 
@@ -65,10 +66,10 @@ pub seats-same : {s ns : List ℕ} {j k a n b m : ℕ} → Seated s ns j a n →
     → sameBodies (drop a s) n (drop b s) m ≡ same (body (seated j (telegramsOf s ns))) (body (seated k (telegramsOf s ns)))
 seats-same {s} {ns} {j} {k} {a} {n} {b} {m} t u = by-test (eqb n m) refl
   where
-    abbrev x : List ℕ
+    x : List ℕ
     x = body (seated j (telegramsOf s ns))
 
-    abbrev y : List ℕ
+    y : List ℕ
     y = body (seated k (telegramsOf s ns))
 
     by-test : (c : Bool) → eqb n m ≡ c → sameBodies (drop a s) n (drop b s) m ≡ same x y
@@ -82,6 +83,10 @@ seats-same {s} {ns} {j} {k} {a} {n} {b} {m} t u = by-test (eqb n m) refl
         let p = seat-length t in
         let q = seat-length u in
         rw e (sym (other-length x y (λ z. i (omega arith))))
+
+pub line-same : {s ns : List ℕ} → Lineup s ns → (j k : ℕ) → j < length ns → k < length ns
+    → samePackets s (seatOf s ns j) (seatOf s ns k) ≡ same (body (seated j (telegramsOf s ns))) (body (seated k (telegramsOf s ns)))
+line-same {s} {ns} l j k h i = seats-same (line-seat l j h (seatOf s ns j) refl) (line-seat l k i (seatOf s ns k) refl)
 
 -- ---- what M_DUP names, one balise after the other
 

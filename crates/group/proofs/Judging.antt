@@ -27,7 +27,7 @@ use Rattle.group.specs.Walks.{Arrives, Lineup, telegramsOf, those, lineO
 abbrev Telegrams : Type 0
 Telegrams = List (List Entry)
 
-module _ {s ns : List ℕ} where
+module _ (s ns : List ℕ) where
   abbrev ts : Telegrams
   ts = telegramsOf s ns
 
@@ -109,7 +109,7 @@ module _ (s ns : List ℕ) (room : ℕ) where
       by-copies ts none = refl
       by-copies ts (some k) = refl
 
-      abbrev last : Telegrams → Message
+      last : Telegrams → Message
       last ts = uncollided (listed (counting 0 none ts)) (collision [] (listed (counting 0 none ts)))
 
       by-line : (ts : Telegrams) (b : Bool) → cond b (uncopied ts (miscopied 0 none ts)) (Message.refuses (fault Counters 0 0)) ≡ judgedBy (cond b (copyVerdict (miscopied 0 none ts)) (Faulty (fault Counters 0 0))) (last ts)

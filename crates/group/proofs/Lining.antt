@@ -11,11 +11,11 @@ use lib.ListN.{length, drop, length-drop}
 use Rattle.bits.specs.Bits.{bytesFor}
 use Rattle.format.specs.Fields.{M-DUP, M-MCOUNT}
 use Rattle.format.specs.Telegrams.{Entry}
-use Rattle.headers.specs.Headers.{numberAt}
-use Rattle.seats.specs.Seats.{seatOf, tallied}
+use Rattle.headers.specs.Headers.{numberAt, countersMatch, latestOf}
+use Rattle.seats.specs.Seats.{seatOf, counterOf, dupOf}
 use Rattle.seats.specs.declared.Seat.{Seat}
 use Rattle.group.specs.Groups.{held, every, pairwise, standing, once, inOrder, matches, counted}
-use Rattle.group.specs.Walks.{Lineup, Seated, telegramsOf, chief, seated, lineOf, meet, latest}
+use Rattle.group.specs.Walks.{Lineup, Seated, telegramsOf, chief, seated, lineOf}
 use Rattle.group.proofs.Arrival.{once-at, grouped-once}
 use Rattle.group.proofs.Held.{front-held, front-headed, front-size}
 use Rattle.group.proofs.Seeking.{seat-seated}
@@ -81,26 +81,33 @@ module _ {s ns : List ℕ} {k start n : ℕ} (t : Seated s ns k start n) where
   pub seat-dup : numberAt (drop start s) 58 15 2 ≡ held M-DUP (seated k (telegramsOf s ns))
   seat-dup = front-held (t .front) (front-headed (t .front) .dup) (omega arith) ∙ ap (held M-DUP) seat-is
 
+module _ {s ns : List ℕ} (l : Lineup s ns) (k : ℕ) (h : k < length ns) where
+  pub line-counter : counterOf s (seatOf s ns k) ≡ held M-MCOUNT (seated k (telegramsOf s ns))
+  line-counter = seat-count (line-seat l k h (seatOf s ns k) refl)
+
+  pub line-dup : dupOf s (seatOf s ns k) ≡ held M-DUP (seated k (telegramsOf s ns))
+  line-dup = seat-dup (line-seat l k h (seatOf s ns k) refl)
+
 -- ---- counters, one after the other
 
 abbrev odd : List Entry → Bool
 odd t = not (eqb (held M-MCOUNT t) 254)
 
 abbrev meeting : ℕ → List Entry → Bool
-meeting a t = meet a (held M-MCOUNT t)
+meeting a t = countersMatch a (held M-MCOUNT t)
 
 abbrev pub countedFrom : ℕ → Telegrams → Bool
 countedFrom a [] = true
 countedFrom a (t ∷ ts) =
-    not (eqb (held M-MCOUNT t) 254) && (meet a (held M-MCOUNT t) && countedFrom (latest a (held M-MCOUNT t)) ts)
+    not (eqb (held M-MCOUNT t) 254) && (countersMatch a (held M-MCOUNT t) && countedFrom (latestOf a (held M-MCOUNT t)) ts)
 
 every-true : (f : List Entry → Bool) → ((t : List Entry) → f t ≡ true) → (ts : Telegrams) → every f ts ≡ true
 every-true f h [] = refl
 every-true f h (t ∷ ts) = rw (h t) (every-true f h ts)
 
 -- those that match a counter of 255, and those that match the same twice
-tightens : (a c : ℕ) (ts : Telegrams) (p : Bool) → meet a c ≡ true
-    → (every (meeting (latest a c)) ts && p) ≡ (every (meeting a) ts && (every (meeting c) ts && p))
+tightens : (a c : ℕ) (ts : Telegrams) (p : Bool) → countersMatch a c ≡ true
+    → (every (meeting (latestOf a c)) ts && p) ≡ (every (meeting a) ts && (every (meeting c) ts && p))
 tightens a c ts p h = by-last (eqb c 255) refl
   where
     twice : (x : Bool) → (x && p) ≡ (x && (x && p))
@@ -113,7 +120,7 @@ tightens a c ts p h = by-last (eqb c 255) refl
         let g : eqb a c ≡ true = (rw (f, e) at h) in
         rw (eqb-true a c g) (twice (every (meeting c) ts))
 
-    by-last : (b : Bool) → eqb c 255 ≡ b → (every (meeting (latest a c)) ts && p) ≡ (every (meeting a) ts && (every (meeting c) ts && p))
+    by-last : (b : Bool) → eqb c 255 ≡ b → (every (meeting (latestOf a c)) ts && p) ≡ (every (meeting a) ts && (every (meeting c) ts && p))
     by-last true e = let q : every (meeting c) ts ≡ true = every-true (meeting c) (λ t. rw e) ts in rw (e, q)
     by-last false e = rw e (by-first (eqb a 255) e refl)
 
@@ -121,8 +128,8 @@ counted-each : (a : ℕ) (ts : Telegrams) → countedFrom a ts ≡ (every odd ts
 counted-each a [] = refl
 counted-each a (t ∷ ts) =
     let c = held M-MCOUNT t in
-    ap (λ (x : Bool). odd t && (meet a c && x)) (counted-each (latest a c) ts)
-    ∙ joins (odd t) (meet a c) (every odd ts) (every (meeting (latest a c)) ts && pairwise matches ts) (every (meeting a) ts) (every (meeting c) ts && pairwise matches ts)
+    ap (λ (x : Bool). odd t && (countersMatch a c && x)) (counted-each (latestOf a c) ts)
+    ∙ joins (odd t) (countersMatch a c) (every odd ts) (every (meeting (latestOf a c)) ts && pairwise matches ts) (every (meeting a) ts) (every (meeting c) ts && pairwise matches ts)
     (tightens a c ts (pairwise matches ts))
   where
     joins : (n m e x y z : Bool) → (m ≡ true → x ≡ (y && z)) → (n && (m && (e && x))) ≡ ((n && e) && ((m && y) && z))
@@ -147,16 +154,16 @@ module _ {s ns : List ℕ} (l : Lineup s ns) where
 
   module _ {k seen : ℕ} (g : Counting s ns k seen) (h : k < length ns) (c : ℕ) (e : c ≡ held M-MCOUNT (seated k (telegramsOf s ns))) where
     counted-turn : counted (lineOf s ns)
-        ≡ (not (eqb c 254) && (meet seen c && countedFrom (latest seen c) (inOrder (k + 1) (length ns - (k + 1)) (telegramsOf s ns))))
+        ≡ (not (eqb c 254) && (countersMatch seen c && countedFrom (latestOf seen c) (inOrder (k + 1) (length ns - (k + 1)) (telegramsOf s ns))))
     counted-turn = g .same ∙ ap (countedFrom seen) (line-turn l k h) ∙ rw (← e)
 
     pub counting-never : c ≡ 254 → false ≡ counted (lineOf s ns)
     counting-never i = sym (counted-turn ∙ rw (eq-eqb c 254 i))
 
-    pub counting-apart : (c ≡ 254 → ⊥) → meet seen c ≡ false → false ≡ counted (lineOf s ns)
+    pub counting-apart : (c ≡ 254 → ⊥) → countersMatch seen c ≡ false → false ≡ counted (lineOf s ns)
     counting-apart i j = sym (counted-turn ∙ rw (ne-eqb c 254 i, j))
 
-    pub counting-on : (c ≡ 254 → ⊥) → meet seen c ≡ true → (x : ℕ) → x ≡ latest seen c → Counting s ns (k + 1) x
+    pub counting-on : (c ≡ 254 → ⊥) → countersMatch seen c ≡ true → (x : ℕ) → x ≡ latestOf seen c → Counting s ns (k + 1) x
     counting-on i j x f = record { few = omega arith; same = counted-turn ∙ rw (ne-eqb c 254 i, j, f) }
 
   pub counting-end : {k seen : ℕ} → Counting s ns k seen → length ns ≤ k → true ≡ counted (lineOf s ns)

@@ -1,5 +1,5 @@
 -- What the functions that make up `message::message` promise, and what those that are not public ask. Definitions alone.
-use mathlib.Core.Bool.{Bool, cond, _&&_, _||_, true}
+use mathlib.Core.Bool.{Bool, cond, _&&_, true}
 use mathlib.Core.List.{List, [], _∷_, _++_, map}
 use mathlib.Core.Option.{Option, some, none}
 use mathlib.Core.Path.{_≡_}
@@ -85,16 +85,6 @@ seated k ts = chief (standing k ts)
 -- the telegrams by their N_PIG
 abbrev pub lineOf : List ℕ → List ℕ → List (List Entry)
 lineOf s ns = inOrder 0 (length (telegramsOf s ns)) (telegramsOf s ns)
-
--- ---- 22
-
--- two counters match
-abbrev pub meet : ℕ → ℕ → Bool
-meet a c = eqb a 255 || (eqb c 255 || eqb a c)
-
--- the counter that those to come must match
-abbrev pub latest : ℕ → ℕ → ℕ
-latest a c = cond (eqb c 255) a c
 
 -- ---- 23
 

@@ -5,6 +5,8 @@ use Rattle.headers.proofs.field
 use Rattle.headers.proofs.identity
 use Rattle.headers.proofs.belongs
 use Rattle.headers.proofs.same_body
+use Rattle.headers.proofs.counters_match
+use Rattle.headers.proofs.latest
 
 pub field-once : OneOutcome field.ended field.Reads.Post
 field-once κs args r t u v p q = (p ∙ sym q, refl)
@@ -17,3 +19,9 @@ belongs-once κs args r t u v p q = (p ∙ sym q, refl)
 
 pub same-body-once : OneOutcome same_body.ended same_body.Reads.Post
 same-body-once κs args r t u v p q = (p ∙ sym q, refl)
+
+pub counters-match-once : OneOutcome counters_match.ended counters_match.Reads.Post
+counters-match-once κs args r t u v p q = (p ∙ sym q, refl)
+
+pub latest-once : OneOutcome latest.ended latest.Reads.Post
+latest-once κs args r t u v p q = (p ∙ sym q, refl)

@@ -1,5 +1,5 @@
 -- Numbers in telegrams that lie one behind the other. Definitions alone.
-use mathlib.Core.Bool.{Bool, _&&_}
+use mathlib.Core.Bool.{Bool, cond, _&&_, _||_}
 use mathlib.Core.List.{List}
 use Prim.Native.Nat.{ℕ, _*_}
 use lib.Dec.{eqb, leb}
@@ -27,3 +27,11 @@ abbrev pub sameBodies : List ℕ → ℕ → List ℕ → ℕ → Bool
 sameBodies u n v m =
     eqb n m
     && (leb n (8 * length u) && (leb n (8 * length v) && same (drop 50 (take n (bitsOf u))) (drop 50 (take n (bitsOf v)))))
+
+-- two M_MCOUNT match: "all counters other than 255 must be equal"
+abbrev pub countersMatch : ℕ → ℕ → Bool
+countersMatch a c = eqb a 255 || (eqb c 255 || eqb a c)
+
+-- which those to come must match, after a and then c
+abbrev pub latestOf : ℕ → ℕ → ℕ
+latestOf a c = cond (eqb c 255) a c

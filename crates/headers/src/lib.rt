@@ -7,10 +7,13 @@ ghost use Prim.Native.Nat.{_+_, _*_, _≤_, min};
 ghost use lib.Dec.{eqb, leb};
 ghost use lib.ListN.{length, take, drop};
 ghost use Rattle.bits.specs.Bits.{bitsOf, bytesFor, same};
-ghost use Rattle.headers.specs.Headers.{numberAt, belongsTo, sameBodies};
+ghost use Rattle.headers.specs.Headers.{numberAt, belongsTo, sameBodies, countersMatch, latestOf};
 use bits::Cursor;
 use bits::Taken;
 use bits::bytes_for;
+
+// The M_MCOUNT that matches any other.
+const ANY: u64 = 255;
 
 // The number in the width bits from a bit on, of the n bits that lie from the byte start on.
 pub fn field(s: &[u8], start: usize, n: usize, bit: usize, width: usize) -> u64
@@ -89,4 +92,24 @@ fn stride(left: usize) -> usize
     ensures { λ r. ⌜ r ≡ min left 25 ⌝ }
 {
     if left < 25 { left } else { 25 }
+}
+
+// Whether two counters match: one of them says that it matches any, or they are the same.
+pub fn counters_match(a: u64, c: u64) -> bool
+    ensures { λ r. ⌜ r ≡ countersMatch a c ⌝ }
+{
+    if a == ANY {
+        return true;
+    }
+    if c == ANY {
+        return true;
+    }
+    a == c
+}
+
+// The counter that those to come must match, after a and then c.
+pub fn latest(a: u64, c: u64) -> u64
+    ensures { λ r. ⌜ r ≡ latestOf a c ⌝ }
+{
+    if c == ANY { a } else { c }
 }

@@ -5,6 +5,9 @@ use Rattle.seats.proofs.behind
 use Rattle.seats.proofs.pig
 use Rattle.seats.proofs.tally
 use Rattle.seats.proofs.seek
+use Rattle.seats.proofs.dup
+use Rattle.seats.proofs.counter
+use Rattle.seats.proofs.same_packets
 
 pub behind-once : OneOutcome behind.ended behind.Reads.Post
 behind-once κs args r t u v p q = (p ∙ sym q, refl)
@@ -17,3 +20,12 @@ tally-once κs args r t u v p q = (p ∙ sym q, refl)
 
 pub seek-once : OneOutcome seek.ended seek.Reads.Post
 seek-once κs args r t u v p q = (p ∙ sym q, refl)
+
+pub dup-once : OneOutcome dup.ended dup.Reads.Post
+dup-once κs args r t u v p q = (p ∙ sym q, refl)
+
+pub counter-once : OneOutcome counter.ended counter.Reads.Post
+counter-once κs args r t u v p q = (p ∙ sym q, refl)
+
+pub same-packets-once : OneOutcome same_packets.ended same_packets.Reads.Post
+same-packets-once κs args r t u v p q = (p ∙ sym q, refl)

@@ -1,11 +1,11 @@
 -- Telegrams one behind the other, looked for by their N_PIG. Definitions alone.
-use mathlib.Core.Bool.{cond}
+use mathlib.Core.Bool.{Bool, cond}
 use mathlib.Core.List.{List, [], _∷_}
 use Prim.Native.Nat.{ℕ, _+_, min}
 use lib.Dec.{eqb}
 use lib.ListN.{length, drop}
 use Rattle.bits.specs.Bits.{bytesFor}
-use Rattle.headers.specs.Headers.{numberAt}
+use Rattle.headers.specs.Headers.{numberAt, sameBodies}
 use Rattle.seats.specs.declared.Seat.{Seat}
 
 -- the N_PIG of the telegram in front of these bytes: 3 bits from bit 9 on
@@ -27,3 +27,14 @@ seatFrom k start u (n ∷ ns) =
 
 abbrev pub seatOf : List ℕ → List ℕ → ℕ → Seat
 seatOf s ns k = seatFrom k 0 s ns
+
+-- of the telegram at a seat: its M_DUP, 2 bits from bit 15 on, its M_MCOUNT, 8 bits from bit 17 on, and whether what follows its header is the same as
+-- at another seat
+abbrev pub dupOf : List ℕ → Seat → ℕ
+dupOf s t = numberAt (drop (t .start) s) 58 15 2
+
+abbrev pub counterOf : List ℕ → Seat → ℕ
+counterOf s t = numberAt (drop (t .start) s) 58 17 8
+
+abbrev pub samePackets : List ℕ → Seat → Seat → Bool
+samePackets s a b = sameBodies (drop (a .start) s) (a .n) (drop (b .start) s) (b .n)

@@ -6,10 +6,10 @@ ghost use mathlib.Core.Bool.{cond};
 ghost use Prim.Native.Nat.{_+_, _-_, min};
 ghost use lib.ListN.{drop};
 ghost use Rattle.bits.specs.Bits.{bytesFor};
-ghost use Rattle.headers.specs.Headers.{numberAt};
-ghost use Rattle.seats.specs.Seats.{pigOf, tallied, seatOf};
+ghost use Rattle.seats.specs.Seats.{pigOf, tallied, seatOf, dupOf, counterOf, samePackets};
 use bits::bytes_for;
 use headers::field;
+use headers::same_body;
 
 // Where a telegram stands: its first byte, and how many bits it has.
 pub struct Seat {
@@ -74,4 +74,29 @@ pub fn seek(s: &[u8], ns: &[usize], k: u64) -> Seat
         i += 1;
     }
     Seat { start: 0, n: 0 }
+}
+
+// The M_DUP of the first telegram with this N_PIG.
+pub fn dup(s: &[u8], ns: &[usize], k: u64) -> u64
+    ensures { λ r. ⌜ r ≡ dupOf (now (s .entry)) (seatOf (now (s .entry)) (now (ns .entry)) k) ⌝ }
+{
+    let t = seek(s, ns, k);
+    field(s, t.start, 58, 15, 2)
+}
+
+// The M_MCOUNT of the first telegram with this N_PIG.
+pub fn counter(s: &[u8], ns: &[usize], k: u64) -> u64
+    ensures { λ r. ⌜ r ≡ counterOf (now (s .entry)) (seatOf (now (s .entry)) (now (ns .entry)) k) ⌝ }
+{
+    let t = seek(s, ns, k);
+    field(s, t.start, 58, 17, 8)
+}
+
+// Whether the first telegrams with these two N_PIG are the same behind their headers.
+pub fn same_packets(s: &[u8], ns: &[usize], j: u64, k: u64) -> bool
+    ensures { λ r. ⌜ r ≡ samePackets (now (s .entry)) (seatOf (now (s .entry)) (now (ns .entry)) j) (seatOf (now (s .entry)) (now (ns .entry)) k) ⌝ }
+{
+    let a = seek(s, ns, j);
+    let b = seek(s, ns, k);
+    same_body(s, a.start, a.n, b.start, b.n)
 }

@@ -1,0 +1,2 @@
+-- One answer to each promise.
+pub mod Once
