@@ -154,5 +154,11 @@ module _ {p : Terms} {u : List ℕ} {n : ℕ} {es : List Entry} (q : Front p u n
       ∙ ap valueOf (front-bits at (f .width) (omega arith) ∙ rw (d .is, ← (d .bit)) (bits-at (d .before) f (d .value) (d .after)))
       ∙ valueOf-digits (f .width) (d .value) (d .small) ∙ sym (d .first)
 
+  -- any field, by what stands before it
+  pub front-number : (xs : List Entry) (f : Field) (v : ℕ) (ys : List Entry) → es ≡ xs ++ holding f v ∷ ys → v < 2 ^ f .width → bitCount xs + f .width ≤ n
+      → valueOf (fieldBits u (f .width) (bitCount xs)) ≡ v
+  front-number xs f v ys e h k =
+      ap valueOf (front-bits (bitCount xs) (f .width) k ∙ rw e (bits-at xs f v ys)) ∙ valueOf-digits (f .width) v h
+
   pub front-headed : Headed es
   front-headed = telegram-headed (front-sound .telegram)

@@ -13,3 +13,4 @@ pub mod Belonging
 pub mod Lining
 pub mod Copying
 pub mod Judging
+pub mod Packeting

@@ -20,8 +20,28 @@ use Rattle.group.specs.declared.Found.the-variants.{At, Nowhere}
 use Rattle.group.specs.declared.Verdict.{Verdict}
 use Rattle.group.specs.declared.Verdict.the-variants.{Faulty, Fine}
 use Rattle.group.specs.Groups.{
-  Arrived, arrived, parts, held, standing, every, pairwise, agree, grouped, inOrder, counted, miscopied, Member, Message, fault, listed, counting,
-  collision, uncollided, linked, packetsOf, packetsNeeded,
+  Arrived,
+  arrived,
+  parts,
+  held,
+  standing,
+  every,
+  pairwise,
+  agree,
+  grouped,
+  inOrder,
+  counted,
+  miscopied,
+  Member,
+  Message,
+  fault,
+  listed,
+  counting,
+  collision,
+  uncollided,
+  linked,
+  packetsOf,
+  packetsNeeded,
 }
 use Rattle.group.specs.Groups.Arrived.{all, stops}
 use Rattle.group.specs.Groups.Message.{refuses}

@@ -1,7 +1,7 @@
 -- Packets' heads in bytes, and ways that packets of one kind go. Definitions alone.
 use mathlib.Core.Bool.{Bool, true, false, cond, not, _&&_, _||_}
-use mathlib.Core.List.{List}
-use Prim.Native.Nat.{ℕ}
+use mathlib.Core.List.{List, [], _∷_}
+use Prim.Native.Nat.{ℕ, zero, suc, _+_, _-_, max}
 use lib.Dec.{eqb}
 use Rattle.bits.specs.Take.{takeAt}
 use Rattle.bits.specs.declared.Taken.{Taken}
@@ -31,3 +31,25 @@ besides ways way = cond (eqb ways 0 || eqb ways way) way 3
 -- with those of a packet
 abbrev pub joinedBy : ℕ → ℕ → ℕ
 joinedBy ways dir = cond (eqb dir 0) (besides ways 1) (cond (eqb dir 1) (besides ways 2) 3)
+
+-- ---- one head after the other
+
+-- a packet that is seen: its NID_PACKET, its Q_DIR, and the bit where that begins
+pub record Glimpse : Type 0 where
+  pub id : ℕ
+  pub dir : ℕ
+  pub at : ℕ
+
+-- what there is at a head, and nothing where there is none
+abbrev pub onSight : Sighting → (ℕ → ℕ → ℕ → List Glimpse) → List Glimpse
+onSight (Packet i d l) found = found i d l
+onSight Nothing found = []
+
+-- The packets from the bit at on, before the bit stop: from one to the next by its L_PACKET, and past its head at least. There are at most k.
+unfoldable pub glimpsed : ℕ → List ℕ → ℕ → ℕ → List Glimpse
+glimpsed zero u stop at = []
+glimpsed (suc k) u stop at = onSight (headAt u stop at) (λ i d l. record { id = i; dir = d; at = at + 8 } ∷ glimpsed k u stop (at + max l 23))
+
+-- those of the n bits of a telegram: behind its header and before its end mark
+abbrev pub glimpses : List ℕ → ℕ → List Glimpse
+glimpses u n = glimpsed (n - 8) u (n - 8) 50
