@@ -52,11 +52,12 @@ pub record PacketAt (u : List ℕ) (n at : ℕ) (p : List Entry) : Type 0 where
   pub inside : at + bitCount p + 8 ≤ n
 
 -- a head of three numbers in one
-head-parts : (a i d l : ℕ) → a < 8388608 → i ≡ a / 32768 % 256 → d ≡ a / 8192 % 4 → l ≡ a / 1 % 8192 → Packet (idIn a) (dirIn a) (longIn a) ≡ Packet i d l
-head-parts a i d l h ei ed el =
+head-parts : (a i d l : ℕ) → a < 8388608 → i ≡ a / 32768 % 256 → d ≡ a / 8192 % 4 → l ≡ a / 1 % 8192 → 23 ≤ l
+    → Packet (idIn a) (dirIn a) (max (longIn a) 23) ≡ Packet i d l
+head-parts a i d l h ei ed el least =
     let x : idIn a ≡ i = omega arith in
     let y : dirIn a ≡ d = omega arith in
-    let z : longIn a ≡ l = omega arith in
+    let z : max (longIn a) 23 ≡ l = omega arith in
     rw (x, y, z)
 
 module _ {u : List ℕ} {n : ℕ} {es : List Entry} (q : Front paper u n es) where
@@ -108,7 +109,7 @@ module _ {u : List ℕ} {n : ℕ} {es : List Entry} (q : Front paper u n es) whe
       record {
         head = h;
         sight = ap headOf (take-whole u (n - 8) 23 at (omega arith) (omega arith) (omega arith))
-            ∙ head-parts number (h .id) (h .dir) (h .long) (field-lt u 23 at (omega arith)) name way size
+            ∙ head-parts number (h .id) (h .dir) (h .long) (field-lt u 23 at (omega arith)) name way size (omega arith)
             ∙ ap (Packet (h .id) (h .dir)) (sym long);
         small = telegram-small (front-sound q .telegram) (record { before = b; after = holding L-PACKET (h .long) ∷ after; parts = here });
         least = least;
@@ -170,15 +171,14 @@ module _ {u : List ℕ} {n : ℕ} {es : List Entry} (q : Front paper u n es) (k 
   seen-from (suc fuel) j xs (p ∷ ys) e h =
       let a = packet-at q xs p ys e in
       let at = 50 + taken xs in
-      let m : List Glimpse = record { id = a .head .id; dir = a .head .dir; at = at + 8 } ∷ glimpsed fuel u (n - 8) (at + max (bitCount p) 23) in
+      let m : List Glimpse = record { id = a .head .id; dir = a .head .dir; at = at + 8 } ∷ glimpsed fuel u (n - 8) (at + bitCount p) in
       let sum : taken (xs ++ (p ∷ [])) ≡ taken xs + bitCount p = taken-append xs (p ∷ []) ∙ omega arith in
       let least = a .least in
-      let next : at + max (bitCount p) 23 ≡ 50 + taken (xs ++ (p ∷ [])) = omega arith in
-      let on : 50 + taken (xs ++ (p ∷ [])) ≡ at + bitCount p = omega arith in
+      let next : at + bitCount p ≡ 50 + taken (xs ++ (p ∷ [])) = omega arith in
       let rest = seen-from fuel (suc j) (xs ++ (p ∷ [])) ys (e ∙ sym (append-assoc xs (p ∷ []) ys)) (omega arith) in
-      ap (λ (x : Sighting). numbered k j (onSight x (λ i d l. record { id = i; dir = d; at = at + 8 } ∷ glimpsed fuel u (n - 8) (at + max l 23)))) (a .sight)
+      ap (λ (x : Sighting). numbered k j (onSight x (λ i d l. record { id = i; dir = d; at = at + 8 } ∷ glimpsed fuel u (n - 8) (at + l)))) (a .sight)
       ∙ ap (λ (l : List Member). record { pig = k; number = j; id = a .head .id; dir = a .head .dir; at = at + 8 } ∷ l)
-      (ap (λ (x : ℕ). numbered k (suc j) (glimpsed fuel u (n - 8) x)) next ∙ rest ∙ ap (λ (x : ℕ). packetsFrom k (suc j) x (ys ++ mark)) on)
+      (ap (λ (x : ℕ). numbered k (suc j) (glimpsed fuel u (n - 8) x)) next ∙ rest ∙ ap (λ (x : ℕ). packetsFrom k (suc j) x (ys ++ mark)) (sym next))
       ∙ sym (from-head p (a .head) k j at (ys ++ mark))
 
   -- in order of sending, with their numbers from 0

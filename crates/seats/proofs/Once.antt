@@ -1,6 +1,7 @@
 -- Each promise of this crate is met by one answer alone. Assumes nothing.
 use mathlib.Core.Path.{refl, sym, _∙_}
 use Rattle.bits.proofs.Once.{OneOutcome}
+use Rattle.seats.proofs.balise_at
 use Rattle.seats.proofs.behind
 use Rattle.seats.proofs.pig
 use Rattle.seats.proofs.tally
@@ -29,3 +30,6 @@ counter-once κs args r t u v p q = (p ∙ sym q, refl)
 
 pub same-packets-once : OneOutcome same_packets.ended same_packets.Reads.Post
 same-packets-once κs args r t u v p q = (p ∙ sym q, refl)
+
+pub balise-at-once : OneOutcome balise_at.ended balise_at.Reads.Post
+balise-at-once κs args r t u v p q = (p ∙ sym q, refl)

@@ -1,5 +1,5 @@
 -- Telegrams one behind the other, looked for by their N_PIG. Definitions alone.
-use mathlib.Core.Bool.{Bool, cond}
+use mathlib.Core.Bool.{Bool, cond, not, _&&_, _||_}
 use mathlib.Core.List.{List, [], _∷_}
 use Prim.Native.Nat.{ℕ, _+_, min}
 use lib.Dec.{eqb}
@@ -7,6 +7,7 @@ use lib.ListN.{length, drop}
 use Rattle.bits.specs.Bits.{bytesFor}
 use Rattle.headers.specs.Headers.{numberAt, sameBodies}
 use Rattle.seats.specs.declared.Seat.{Seat}
+use Rattle.seats.specs.declared.Balise.{Balise}
 
 -- the N_PIG of the telegram in front of these bytes: 3 bits from bit 9 on
 abbrev pub pigOf : List ℕ → ℕ
@@ -38,3 +39,10 @@ counterOf s t = numberAt (drop (t .start) s) 58 17 8
 
 abbrev pub samePackets : List ℕ → Seat → Seat → Bool
 samePackets s a b = sameBodies (drop (a .start) s) (a .n) (drop (b .start) s) (b .n)
+
+-- the balise with the N_PIG k is linked to the one before it: that one's M_DUP names the next, or its own the previous
+abbrev pub linkedBy : ℕ → ℕ → ℕ → Bool
+linkedBy k before dup = not (eqb k 0) && (eqb before 1 || eqb dup 2)
+
+abbrev pub baliseOf : List ℕ → Seat → ℕ → ℕ → Balise
+baliseOf s t k before = record { seat = t; dup = dupOf s t; counts = not (linkedBy k before (dupOf s t)) }

@@ -6,7 +6,7 @@ ghost use mathlib.Core.Bool.{cond};
 ghost use Prim.Native.Nat.{_+_, _-_, min};
 ghost use lib.ListN.{drop};
 ghost use Rattle.bits.specs.Bits.{bytesFor};
-ghost use Rattle.seats.specs.Seats.{pigOf, tallied, seatOf, dupOf, counterOf, samePackets};
+ghost use Rattle.seats.specs.Seats.{pigOf, tallied, seatOf, dupOf, counterOf, samePackets, linkedBy, baliseOf};
 use bits::bytes_for;
 use headers::field;
 use headers::same_body;
@@ -15,6 +15,13 @@ use headers::same_body;
 pub struct Seat {
     pub start: usize,
     pub n: usize,
+}
+
+// A balise as it is met in the order of N_PIG: where its telegram stands, its M_DUP, and whether it counts, being no copy of the one before it.
+pub struct Balise {
+    pub seat: Seat,
+    pub dup: u64,
+    pub counts: bool,
 }
 
 // Where the n bits from the byte start on end, of so many bytes: where they do, if they are not all there.
@@ -99,4 +106,27 @@ pub fn same_packets(s: &[u8], ns: &[usize], j: u64, k: u64) -> bool
     let a = seek(s, ns, j);
     let b = seek(s, ns, k);
     same_body(s, a.start, a.n, b.start, b.n)
+}
+
+// The balise with this N_PIG, where before is the M_DUP of the one before it.
+pub fn balise_at(s: &[u8], ns: &[usize], k: u64, before: u64) -> Balise
+    ensures { λ r. ⌜ r ≡ baliseOf (now (s .entry)) (seatOf (now (s .entry)) (now (ns .entry)) k) k before ⌝ }
+{
+    let seat = seek(s, ns, k);
+    let dup = field(s, seat.start, 58, 15, 2);
+    let counts = !linked(k, before, dup);
+    Balise { seat, dup, counts }
+}
+
+// Whether a balise is linked to the one before it: one of the two names the other.
+fn linked(k: u64, before: u64, dup: u64) -> bool
+    ensures { λ r. ⌜ r ≡ linkedBy k before dup ⌝ }
+{
+    if k == 0 {
+        return false;
+    }
+    if before == 1 {
+        return true;
+    }
+    dup == 2
 }

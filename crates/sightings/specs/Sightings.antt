@@ -10,9 +10,9 @@ use Rattle.states.specs.Lookback.{idIn, dirIn, longIn}
 use Rattle.sightings.specs.declared.Sighting.{Sighting}
 use Rattle.sightings.specs.declared.Sighting.the-variants.{Packet, Nothing}
 
--- the three numbers of a head
+-- the numbers of a head: the next packet begins behind as many bits as L_PACKET says, and behind the head at least
 abbrev pub headOf : Taken → Sighting
-headOf (Field a c) = Packet (idIn a) (dirIn a) (longIn a)
+headOf (Field a c) = Packet (idIn a) (dirIn a) (max (longIn a) 23)
 headOf Short = Nothing
 
 -- the head of 23 bits at a bit, ending by the bit stop
@@ -23,6 +23,10 @@ headAt u stop at = headOf (takeAt u stop 23 at)
 -- so does one with Q_DIR 1; one that goes both ways does unless they are none
 abbrev pub sharedBy : ℕ → ℕ → Bool
 sharedBy ways dir = not (eqb ways 0) && cond (eqb dir 0) (not (eqb ways 2)) (cond (eqb dir 1) (not (eqb ways 1)) true)
+
+-- "ETCS-44 exempt"
+abbrev pub repeatsIn : ℕ → ℕ → ℕ → Bool
+repeatsIn id dir ways = not (eqb id 44) && sharedBy ways dir
 
 -- with a single way
 abbrev pub besides : ℕ → ℕ → ℕ
@@ -45,10 +49,10 @@ abbrev pub onSight : Sighting → (ℕ → ℕ → ℕ → List Glimpse) → Lis
 onSight (Packet i d l) found = found i d l
 onSight Nothing found = []
 
--- The packets from the bit at on, before the bit stop: from one to the next by its L_PACKET, and past its head at least. There are at most k.
+-- the packets from the bit at on, before the bit stop, one after the other; there are at most k
 unfoldable pub glimpsed : ℕ → List ℕ → ℕ → ℕ → List Glimpse
 glimpsed zero u stop at = []
-glimpsed (suc k) u stop at = onSight (headAt u stop at) (λ i d l. record { id = i; dir = d; at = at + 8 } ∷ glimpsed k u stop (at + max l 23))
+glimpsed (suc k) u stop at = onSight (headAt u stop at) (λ i d l. record { id = i; dir = d; at = at + 8 } ∷ glimpsed k u stop (at + l))
 
 -- those of the n bits of a telegram: behind its header and before its end mark
 abbrev pub glimpses : List ℕ → ℕ → List Glimpse

@@ -29,8 +29,11 @@ enum-told c = search needs
 returns-2 : tie.Need-returns-2
 returns-2 c = head-short (now (c .before .before .before .before .before .before .args .s)) (c .before .before .before .before .before .before .args .start) (c .before .before .before .before .before .before .args .stop) (c .before .before .before .before .before .before .args .at) (c .before .before .take .result) (c .before .before .take .ensures) (c .enum-told .given .1)
 
+reach-requires : tie.Need-reach-requires
+reach-requires c κs = search needs
+
 returns-3 : tie.Need-returns-3
-returns-3 c = head-taken (now (c .before .before .before .before .before .before .before .args .s)) (c .before .before .before .before .before .before .before .args .start) (c .before .before .before .before .before .before .before .args .stop) (c .before .before .before .before .before .before .before .args .at) (c .before .before .before .take .result) (c .before .before .before .take .ensures) _ _ (c .before .a .given .1)
+returns-3 c = rw (c .reach .ensures) (head-taken (now (c .before .before .before .before .before .before .before .before .args .s)) (c .before .before .before .before .before .before .before .before .args .start) (c .before .before .before .before .before .before .before .before .args .stop) (c .before .before .before .before .before .before .before .before .args .at) (c .before .before .before .before .take .result) (c .before .before .before .before .take .ensures) _ _ (c .before .before .a .given .1))
 
 pub head-spec : {M : Type 1} → statement M
 head-spec =
@@ -44,4 +47,5 @@ head-spec =
     enum-known-a
     enum-told
     returns-2
+    reach-requires
     returns-3)
