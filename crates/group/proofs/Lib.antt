@@ -14,3 +14,5 @@ pub mod Lining
 pub mod Copying
 pub mod Judging
 pub mod Packeting
+pub mod Passing
+pub mod Enough

@@ -188,3 +188,25 @@ module _ {u : List ℕ} {n : ℕ} {es : List Entry} (q : Front paper u n es) (k 
       let o = packets-end q in
       seen-from (n - 8) 0 [] all refl (omega arith)
       ∙ ap₂ (λ (x : ℕ) (l : List (List Entry)). packetsFrom k 0 x l) (sym h) (sym (stands q .parts))
+
+-- ---- and have a NID_PACKET of eight bits, and a direction
+
+abbrev pub AllSmall : List Glimpse → Type 0
+AllSmall [] = Unit
+AllSmall (g ∷ gs) = ((g .id < 256) × (g .dir ≤ 2)) × AllSmall gs
+
+module _ {u : List ℕ} {n : ℕ} {es : List Entry} (q : Front paper u n es) where
+  small-from : (fuel : ℕ) (xs ys : List (List Entry)) → divided (stands q .sent) .packets ≡ xs ++ ys → AllSmall (glimpsed fuel u (n - 8) (50 + taken xs))
+  unfolding glimpsed
+  small-from zero xs ys e = tt
+  small-from (suc fuel) xs [] e =
+      let p : 50 + taken xs + 8 ≡ n = ap (λ (l : List (List Entry)). 50 + taken l + 8) (sym (e ∙ append-nil xs)) ∙ packets-end q in
+      subst AllSmall (sym (last-seen q 0 (suc fuel) (50 + taken xs) p)) tt
+  small-from (suc fuel) xs (p ∷ ys) e =
+      let a = packet-at q xs p ys e in
+      let next : 50 + taken (xs ++ (p ∷ [])) ≡ 50 + taken xs + bitCount p = let s = taken-append xs (p ∷ []) in omega arith in
+      let rest = small-from fuel (xs ++ (p ∷ [])) ys (e ∙ sym (append-assoc xs (p ∷ []) ys)) in
+      rw (a .sight) ((a .head .packet .began .small, a .small), (rw next at rest))
+
+  pub seen-small : AllSmall (glimpses u n)
+  seen-small = small-from (n - 8) [] (divided (stands q .sent) .packets) refl

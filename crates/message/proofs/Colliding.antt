@@ -1,0 +1,102 @@
+-- The loop over the balises that looks for packets that collide. Assumes nothing.
+use mathlib.Core.Bool.{Bool, true, false, cond}
+use mathlib.Core.List.{List, [], _∷_, _++_}
+use mathlib.Core.Option.{Option, some, none}
+use mathlib.Core.Path.{_≡_, refl, sym, ap, _∙_}
+use Prim.Native.Nat.{ℕ, zero, suc, _+_, _≤_, _<_}
+use native.Mathlib.Omega.{arith}
+use lib.ListN.{length, drop, replicate, length-set, length-replicate}
+use Rattle.format.specs.Rules.{Earlier, clash, collidesAmong}
+use Rattle.seats.specs.Seats.{seatOf, baliseOf}
+use Rattle.seats.specs.declared.Balise as seats
+use Rattle.sightings.specs.Sightings.{Glimpse, glimpses}
+use Rattle.group.specs.Groups.{Member, collision}
+use Rattle.group.specs.Walks.{Lineup, packetsOfAll}
+use Rattle.group.proofs.Packeting.{numbered}
+use Rattle.message.specs.Passing.{counted, hits, noted, passed, tableThen, Passes, clashOf}
+use Rattle.message.specs.declared.Clash.{Clash}
+use Rattle.message.specs.declared.Clash.the-variants.{Free, At}
+use Rattle.message.proofs.Tables.{Tabled, tabled-none, metAfter, Passing, passing}
+use Rattle.message.proofs.Gathering.{restFrom, dupBefore, rest-first, rest-end, rest-turn, dup-next, size-is, sights, sights-small}
+
+abbrev orElse : Option Member → Option Member → Option Member
+orElse none o = o
+orElse (some m) o = some m
+
+-- of packets one behind the other, the first that collides
+collision-append : (met : List Earlier) (xs ys : List Member) → collision met (xs ++ ys) ≡ orElse (collision met xs) (collision (metAfter xs met) ys)
+unfolding collision
+collision-append met [] ys = refl
+collision-append met (x ∷ xs) ys = by-test (collidesAmong clash (x .id) (x .dir) met) (collision-append (record { id = x .id; dir = x .dir } ∷ met) xs ys)
+  where
+    met' : List Earlier
+    met' = record { id = x .id; dir = x .dir } ∷ met
+
+    by-test : (b : Bool) → collision met' (xs ++ ys) ≡ orElse (collision met' xs) (collision (metAfter xs met') ys)
+        → cond b (some x) (collision met' (xs ++ ys)) ≡ orElse (cond b (some x) (collision met' xs)) (collision (metAfter xs met') ys)
+    by-test true i = refl
+    by-test false i = i
+
+length-then : (table : List ℕ) (gs : List Glimpse) → length (tableThen table gs) ≡ length table
+length-then table [] = refl
+length-then table (g ∷ gs) = by-test (hits table g) (length-then (noted table g) gs)
+  where
+    by-test : (b : Bool) → length (tableThen (noted table g) gs) ≡ length (noted table g) → length (cond b table (tableThen (noted table g) gs)) ≡ length table
+    by-test true i = refl
+    by-test false i = i ∙ length-set table (g .id) _
+
+-- no packet of the balises below k collides, and the table has them all
+pub record Gathering (s ns : List ℕ) (k before : ℕ) (table : List ℕ) : Type 0 where
+  pub few : k ≤ length ns
+  pub dup : before ≡ dupBefore s ns k
+  pub met : List Earlier
+  pub tabled : Tabled met table
+  pub same : collision [] (packetsOfAll s ns) ≡ collision met (restFrom s ns k)
+
+module _ {s ns : List ℕ} (l : Lineup s ns) where
+  pub gathering-first : (table : List ℕ) → table ≡ replicate 256 0 → Gathering s ns 0 0 table
+  gathering-first table e = record { few = omega arith; dup = refl; met = []; tabled = rw e tabled-none; same = ap (collision []) (rest-first l) }
+
+  pub gathering-end : {k before : ℕ} {table : List ℕ} → Gathering s ns k before table → length ns ≤ k → Free ≡ clashOf (collision [] (packetsOfAll s ns))
+  unfolding collision
+  gathering-end {k} g h = sym (ap clashOf (g .same ∙ ap (collision (g .met)) (rest-end l k h)))
+
+  module _ {k before : ℕ} {table : List ℕ} (g : Gathering s ns k before table) (h : k < length ns) (b : seats.Balise) (e : b ≡ baliseOf s (seatOf s ns k) k before) where
+    abbrev gs : List Glimpse
+    gs = counted (b .counts) (glimpses (drop (b .seat .start) s) (b .seat .n))
+
+    pub pass-room : (length table ≡ 256) × ((8 ≤ b .seat .n) × (b .seat .n ≤ 830))
+    pass-room = let z = size-is l k h before (g .dup) b e in (g .tabled .long, (omega (arith, z .0), z .1))
+
+    passes : Passing k 0 gs (g .met) table
+    passes = passing k 0 gs (sights-small l k h before (g .dup) b e) (g .tabled)
+
+    turned : collision [] (packetsOfAll s ns) ≡ orElse (collision (g .met) (numbered k 0 gs)) (collision (metAfter (numbered k 0 gs) (g .met)) (restFrom s ns (k + 1)))
+    turned = g .same ∙ ap (collision (g .met)) (rest-turn l k h before (g .dup) b e) ∙ collision-append (g .met) (numbered k 0 gs) (restFrom s ns (k + 1))
+
+    module _ {r : Clash} {table' : List ℕ} (p : Passes k gs table r table') where
+      pub gathering-hit : (w a : ℕ) → r ≡ At w a → At w a ≡ clashOf (collision [] (packetsOfAll s ns))
+      gathering-hit w a q = by-way (collision (g .met) (numbered k 0 gs)) refl
+        where
+          by-way : (o : Option Member) → collision (g .met) (numbered k 0 gs) ≡ o → At w a ≡ clashOf (collision [] (packetsOfAll s ns))
+          by-way none f =
+              let z : At w a ≡ Free = sym q ∙ p .answer ∙ passes .finds ∙ ap clashOf f in
+              let y : _≡_ {A = ℕ} 0 1 = cc in
+              absurd (omega arith)
+          by-way (some m) f =
+              sym q ∙ p .answer ∙ passes .finds ∙ ap clashOf f
+              ∙ sym (ap clashOf (turned ∙ ap (λ (o : Option Member). orElse o (collision (metAfter (numbered k 0 gs) (g .met)) (restFrom s ns (k + 1)))) f))
+
+      pub gathering-long : (empty : List ℕ) → empty ≡ replicate 256 0 → length table' ≡ length empty
+      gathering-long empty q = ap length (p .contents) ∙ length-then table gs ∙ g .tabled .long ∙ sym (ap length q ∙ length-replicate {A = ℕ} 256 0)
+
+      pub gathering-on : r ≡ Free → Gathering s ns (k + 1) (b .dup) table'
+      gathering-on q =
+          let y = passes .leaves (sym (p .answer) ∙ q) in
+          record {
+            few = omega arith;
+            dup = dup-next l k h before (g .dup) b e;
+            met = metAfter (numbered k 0 gs) (g .met);
+            tabled = rw (p .contents) (y .1);
+            same = turned ∙ rw (y .0);
+          }
