@@ -1,13 +1,14 @@
 -- "1 for room under 264 packets": a telegram has at most 33 packets and a group at most 264, each with an N_PIG below 8 and a number below 33. Assumes nothing.
 use mathlib.Core.Bool.{Bool, true, false, cond, _&&_}
-use mathlib.Core.List.{List, [], _∷_, _++_}
+use mathlib.Core.List.{List, [], _∷_, _++_, map}
 use mathlib.Core.Option.{Option, some, none}
-use mathlib.Core.Path.{_≡_, refl, sym, ap, ap₂, _∙_, subst}
+use mathlib.Core.Path.{_≡_, refl, sym, ap, _∙_, subst}
 use Prim.Native.Nat.{ℕ, zero, suc, _+_, _*_, _≤_, _<_}
 use native.Mathlib.Omega.{arith}
 use borrow.Author.Tests.{leb-true}
 use lib.Dec.{eqb, leb}
 use lib.ListN.{length, length-append}
+use Rattle.bits.specs.Bits.{Below}
 use Rattle.format.specs.Fields.{N-PIG, N-TOTAL, NID-PACKET, Q-DIR}
 use Rattle.format.specs.Rules.{Terms, paper}
 use Rattle.format.specs.Telegrams.{Entry, divided, bitCount, Telegram}
@@ -17,10 +18,10 @@ use Rattle.states.proofs.Answers.{check-judges}
 use Rattle.group.specs.Groups.{Part, Balise, Member, arrived, parts, held, every, pairwise, agree, standing, once, grouped, inOrder, linked, counting, isPacket, packetsFrom, packetsOf, listed, group}
 use Rattle.group.specs.Groups.Arrived.{all}
 use Rattle.group.specs.Groups.Message.{lists}
-use Rattle.group.specs.Walks.{Front, Lineup, telegramsOf, lineOf, packetsOfAll}
+use Rattle.group.specs.Walks.{Front, Lineup, telegramsOf, packetsOfAll}
 use Rattle.group.proofs.Arrival.{first-of, once-at, grouped-once}
 use Rattle.group.proofs.Heads.{IsHeaded, AllHeaded, AllPackets}
-use Rattle.group.proofs.FoundInBits.{Standing, telegram-standing}
+use Rattle.group.proofs.FoundInBits.{telegram-standing}
 use Rattle.group.proofs.Held.{front-sound}
 use Rattle.group.proofs.Passing.{group-passes}
 
@@ -80,6 +81,15 @@ within-at a b [] h [] m y e = let z : _≡_ {A = ℕ} 0 1 = cc in absurd (omega 
 within-at a b [] h (w ∷ x) m y e = let z : _≡_ {A = ℕ} 0 1 = cc in absurd (omega arith)
 within-at a b (v ∷ ms) h [] m y e = let i : v ≡ m = cc in subst (λ (w : Member). (w .pig < a) × (w .number < b)) i (h .0, h .1 .0)
 within-at a b (v ∷ ms) h (w ∷ x) m y e = within-at a b ms (h .1 .1) x m y (cc)
+
+-- so a byte holds each
+pub within-bytes : (ms : List Member) → Within 8 33 ms → Below 256 (map (λ m. m .pig) ms) × Below 256 (map (λ m. m .number) ms)
+within-bytes [] h = (tt, tt)
+within-bytes (m ∷ ms) h =
+    let r = within-bytes ms (h .1 .1) in
+    let a = h .0 in
+    let b = h .1 .0 in
+    ((omega arith, r .0), (omega arith, r .1))
 
 from-within : (a b k j at : ℕ) (ps : List (List Entry)) → k < a → j + length (packetsFrom k j at ps) ≤ b → Within a b (packetsFrom k j at ps)
 unfolding packetsFrom

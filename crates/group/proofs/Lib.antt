@@ -16,3 +16,14 @@ pub mod Judging
 pub mod Packeting
 pub mod Passing
 pub mod Enough
+pub mod Listing
+pub mod Sorting
+pub mod Counted
+pub mod Unlinked
+pub mod EitherWay
+pub mod Singles
+pub mod AnyOrder
+pub mod Position
+pub mod Alone
+pub mod InLine
+pub mod Answer

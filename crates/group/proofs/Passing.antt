@@ -1,6 +1,6 @@
 -- A group is accepted just where each test in turn is passed, and then the answer is the packets of the balises that count. Assumes nothing.
 use mathlib.Core.Bool.{Bool, true, false, cond}
-use mathlib.Core.List.{List, [], _∷_}
+use mathlib.Core.List.{List, []}
 use mathlib.Core.Option.{Option, some, none}
 use mathlib.Core.Path.{_≡_, refl, sym, ap, _∙_}
 use Prim.Native.Nat.{ℕ, _≤_}
@@ -12,7 +12,7 @@ use Rattle.format.specs.Rules.{Terms}
 use Rattle.format.specs.Telegrams.{Entry}
 use Rattle.group.specs.declared.Cause.the-variants.{Room, Identity, Counters}
 use Rattle.group.specs.declared.Fault.{Fault}
-use Rattle.group.specs.Groups.{Arrived, arrived, parts, grouped, inOrder, counted, miscopied, counting, listed, Member, collision, uncollided, uncopied, lined, message, judged, fault, Message, group}
+use Rattle.group.specs.Groups.{Arrived, arrived, parts, grouped, inOrder, counted, miscopied, counting, listed, Member, collision, uncollided, uncopied, lined, message, judged, fault, group}
 use Rattle.group.specs.Groups.Arrived.{all, stops}
 use Rattle.group.specs.Groups.Message.{lists, refuses}
 

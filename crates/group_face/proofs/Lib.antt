@@ -1,0 +1,3 @@
+-- One answer to the promise.
+pub mod Causes
+pub mod Once

@@ -1,0 +1,2 @@
+-- What a reader of this crate's promise must believe.
+pub mod GroupCodes
