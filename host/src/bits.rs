@@ -113,7 +113,11 @@ fn width(run: &[Field]) -> usize {
 
 /// The values of a run that fits, with as few windows as will do.
 #[inline(always)]
-fn split<const K: usize>(bytes: &[u8], start: usize, run: &'static [Field; K]) -> [u64; K] {
+pub(crate) fn split<const K: usize>(
+    bytes: &[u8],
+    start: usize,
+    run: &'static [Field; K],
+) -> [u64; K] {
     let mut values = [0; K];
     let mut base = start;
     let mut offset = 0;

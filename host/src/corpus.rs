@@ -2,6 +2,7 @@
 
 pub mod damage;
 pub mod draft;
+pub mod groups;
 mod maker;
 pub mod packets;
 pub mod random;

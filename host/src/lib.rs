@@ -10,6 +10,7 @@ pub mod corpus;
 mod ctcs;
 mod etcs;
 mod field;
+pub mod group;
 mod length;
 mod normal;
 mod refusal;
@@ -86,6 +87,12 @@ pub fn normalise(bytes: &[u8], n: u64, out: &mut [u8]) -> Result<(), Refusal> {
 /// The C answer: 0, or 1,024 times the refusal number plus the place.
 pub fn code<T>(answer: &Result<T, Refusal>) -> u64 {
     answer.as_ref().map_or_else(Refusal::code, |_| 0)
+}
+
+/// The number of bytes that so many bits take.
+#[inline(always)]
+fn length_of(n: u64) -> usize {
+    usize::try_from(n.div_ceil(8)).unwrap_or(usize::MAX)
 }
 
 /// The number of bits, once it agrees with the bytes and the bits past it are clear.

@@ -1,6 +1,6 @@
 //! Why and where a telegram is refused.
 
-/// The rules a telegram can break; the discriminants are the refusal numbers.
+/// The rules a telegram or a group can break; the discriminants are the refusal numbers.
 #[derive(Clone, Copy, Debug, PartialEq, Eq)]
 #[repr(u32)]
 pub(crate) enum Rule {
@@ -17,6 +17,9 @@ pub(crate) enum Rule {
     Trailing = 11,
     Width = 12,
     Full = 13,
+    Identity = 21,
+    Counters = 22,
+    Copies = 23,
 }
 
 /// A refusal: its number and the bit where the offending field begins.

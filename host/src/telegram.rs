@@ -10,7 +10,7 @@ pub(crate) const END_MARK: u64 = 255;
 
 /// The kinds of packets; the discriminants number them for the test of repeats.
 #[derive(Clone, Copy, PartialEq, Eq)]
-enum Kind {
+pub(crate) enum Kind {
     Linking,
     Gradients,
     StaticSpeeds,
@@ -28,8 +28,9 @@ enum Kind {
 }
 
 impl Kind {
+    /// The kind that an identifier says; the end mark's says none.
     #[inline(always)]
-    fn of(identifier: u64) -> Option<Kind> {
+    pub fn of(identifier: u64) -> Option<Kind> {
         Some(match identifier {
             5 => Kind::Linking,
             21 => Kind::Gradients,
@@ -63,12 +64,12 @@ fn ways(direction: u64) -> u64 {
 
 /// The ways that have been served so far, for each kind.
 #[derive(Default)]
-struct Met(u64);
+pub(crate) struct Met(u64);
 
 impl Met {
     /// Whether a packet may come here: ETCS-44 alone may come as often as it likes.
     #[inline(always)]
-    fn meet(&mut self, kind: Kind, direction: u64) -> bool {
+    pub fn meet(&mut self, kind: Kind, direction: u64) -> bool {
         let served = ways(direction) << (2 * kind as u64);
         let is_free = self.0 & served == 0;
         self.0 |= served;

@@ -18,6 +18,10 @@ numberOr0 Short = 0
 abbrev pub numberAt : List ℕ → ℕ → ℕ → ℕ → ℕ
 numberAt u n bit width = numberOr0 (takeAt u n width bit)
 
+-- the first 32 bits of the telegram in front of these bytes
+abbrev pub frontOf : List ℕ → ℕ
+frontOf u = numberAt u 58 0 32
+
 -- the telegram in front of these bytes has this identity, NID_C, NID_BG and Q_LINK from bit 25 on, and this N_TOTAL
 abbrev pub belongsTo : List ℕ → ℕ → ℕ → Bool
 belongsTo u whose total = eqb whose (numberAt u 58 25 25) && eqb (numberAt u 58 12 3) total

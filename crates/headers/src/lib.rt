@@ -7,10 +7,11 @@ ghost use Prim.Native.Nat.{_+_, _*_, _≤_, min};
 ghost use lib.Dec.{eqb, leb};
 ghost use lib.ListN.{length, take, drop};
 ghost use Rattle.bits.specs.Bits.{bitsOf, bytesFor, same};
-ghost use Rattle.headers.specs.Headers.{numberAt, belongsTo, sameBodies, countersMatch, latestOf};
+ghost use Rattle.headers.specs.Headers.{numberAt, frontOf, belongsTo, sameBodies, countersMatch, latestOf};
 use bits::Cursor;
 use bits::Taken;
 use bits::bytes_for;
+use word64::window;
 
 // The M_MCOUNT that matches any other.
 const ANY: u64 = 255;
@@ -26,6 +27,19 @@ pub fn field(s: &[u8], start: usize, n: usize, bit: usize, width: usize) -> u64
         return 0;
     };
     v
+}
+
+// The first 32 bits of the telegram at the byte start, in which N_PIG, N_TOTAL, M_DUP and M_MCOUNT stand. The compiler makes one load of them.
+pub fn front(s: &[u8], start: usize) -> u64
+    ensures { λ r. ⌜ r ≡ frontOf (drop start (now (s .entry))) ⌝ }
+{
+    if s.len() < start {
+        return 0;
+    }
+    if s.len() - start < 8 {
+        return 0;
+    }
+    window(s[start], s[start + 1], s[start + 2], s[start + 3])
 }
 
 // The NID_C, NID_BG and Q_LINK of the telegram at the byte start, as one number: they stand side by side.

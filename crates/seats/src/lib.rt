@@ -6,9 +6,10 @@ ghost use mathlib.Core.Bool.{cond};
 ghost use Prim.Native.Nat.{_+_, _-_, min};
 ghost use lib.ListN.{drop};
 ghost use Rattle.bits.specs.Bits.{bytesFor};
+ghost use Rattle.headers.specs.Headers.{numberAt};
 ghost use Rattle.seats.specs.Seats.{pigOf, tallied, seatOf, dupOf, counterOf, samePackets, linkedBy, baliseOf};
 use bits::bytes_for;
-use headers::field;
+use headers::front;
 use headers::same_body;
 
 // Where a telegram stands: its first byte, and how many bits it has.
@@ -42,7 +43,7 @@ pub fn behind(all: usize, start: usize, n: usize) -> usize
 pub fn pig(s: &[u8], start: usize) -> u64
     ensures { λ r. ⌜ r ≡ pigOf (drop start (now (s .entry))) ⌝ }
 {
-    field(s, start, 58, 9, 3)
+    front(s, start) / 1048576 % 8
 }
 
 // How many telegrams have this N_PIG.
@@ -88,7 +89,14 @@ pub fn dup(s: &[u8], ns: &[usize], k: u64) -> u64
     ensures { λ r. ⌜ r ≡ dupOf (now (s .entry)) (seatOf (now (s .entry)) (now (ns .entry)) k) ⌝ }
 {
     let t = seek(s, ns, k);
-    field(s, t.start, 58, 15, 2)
+    named(s, t.start)
+}
+
+// The M_DUP of the telegram at the byte start.
+fn named(s: &[u8], start: usize) -> u64
+    ensures { λ r. ⌜ r ≡ numberAt (drop start (now (s .entry))) 58 15 2 ⌝ }
+{
+    front(s, start) / 32768 % 4
 }
 
 // The M_MCOUNT of the first telegram with this N_PIG.
@@ -96,7 +104,7 @@ pub fn counter(s: &[u8], ns: &[usize], k: u64) -> u64
     ensures { λ r. ⌜ r ≡ counterOf (now (s .entry)) (seatOf (now (s .entry)) (now (ns .entry)) k) ⌝ }
 {
     let t = seek(s, ns, k);
-    field(s, t.start, 58, 17, 8)
+    front(s, t.start) / 128 % 256
 }
 
 // Whether the first telegrams with these two N_PIG are the same behind their headers.
@@ -113,7 +121,7 @@ pub fn balise_at(s: &[u8], ns: &[usize], k: u64, before: u64) -> Balise
     ensures { λ r. ⌜ r ≡ baliseOf (now (s .entry)) (seatOf (now (s .entry)) (now (ns .entry)) k) k before ⌝ }
 {
     let seat = seek(s, ns, k);
-    let dup = field(s, seat.start, 58, 15, 2);
+    let dup = named(s, seat.start);
     let counts = !linked(k, before, dup);
     Balise { seat, dup, counts }
 }

@@ -1,8 +1,9 @@
-//! Times the proved check, normaliser and line program beside the independent ones, in one run, and prints the ratios.
+//! Times the proved check, normaliser, message of a group and line program beside the independent ones, in one run, and prints the ratios.
 //!
 //! `bench PROVED-LINES INDEPENDENT-LINES FOLDER`: the two line programs, and a folder for their input.
 
 mod corpora;
+mod groups;
 mod lines;
 mod proved;
 mod ratio;
@@ -25,6 +26,7 @@ fn main() {
     for corpus in corpora::all() {
         functions(&corpus);
     }
+    groups::report();
     if let [proved, independent, folder] = &arguments[..] {
         lines::report(proved, independent, folder);
     }

@@ -13,7 +13,7 @@ pub fn upset_one(random: &mut Random, mark: Mark) -> Draft {
 }
 
 /// Gives a field with the mark, of which there is one, another value of its width.
-fn upset(random: &mut Random, draft: &mut Draft, mark: Mark) {
+pub(super) fn upset(random: &mut Random, draft: &mut Draft, mark: Mark) {
     let marked = draft.marked(mark);
     let entry = &mut draft.entries[random.pick(&marked)];
     let most = u64::MAX >> (64 - entry.width);

@@ -1,5 +1,7 @@
 //! A telegram as a list of fields, before it is packed and perhaps damaged.
 
+use std::ops::Range;
+
 /// What a field is, as far as damage aims at it.
 #[derive(Clone, Copy, Debug, PartialEq, Eq)]
 pub enum Mark {
@@ -65,6 +67,25 @@ impl Draft {
     /// Whether there is no field.
     pub fn is_empty(&self) -> bool {
         self.entries.is_empty()
+    }
+
+    /// Adds the fields of another draft.
+    pub fn append(&mut self, other: &Draft) {
+        self.entries.extend(&other.entries);
+        self.bits += other.bits;
+    }
+
+    /// Puts the fields of another draft in front of the one at an index.
+    pub fn insert(&mut self, index: usize, other: &Draft) {
+        let entries = other.entries.iter().copied();
+        self.entries.splice(index..index, entries);
+        self.bits += other.bits;
+    }
+
+    /// Takes out the fields of a range.
+    pub fn remove(&mut self, range: Range<usize>) {
+        let removed = self.entries.drain(range);
+        self.bits -= removed.map(|entry| entry.width as usize).sum::<usize>();
     }
 
     /// Drops the fields from an index on.

@@ -48,6 +48,13 @@ impl Random {
         choices[self.index(choices.len())]
     }
 
+    /// Puts things into any order.
+    pub fn shuffle<T>(&mut self, things: &mut [T]) {
+        for last in (1..things.len()).rev() {
+            things.swap(last, self.index(last + 1));
+        }
+    }
+
     /// A value of so many bits, the ends of the range more often than by chance.
     pub fn value(&mut self, width: u32) -> u64 {
         let most = u64::MAX >> (64 - width);

@@ -145,7 +145,7 @@ fn add(random: &mut Random, draft: &mut Draft, room: usize, limit: usize) {
 
 /// The identifier and direction of a packet that may come here. Others are drawn again, as they
 /// would make telegrams of many packets rare.
-fn free(random: &mut Random, draft: &Draft) -> (u64, u64) {
+pub(super) fn free(random: &mut Random, draft: &Draft) -> (u64, u64) {
     loop {
         let id = match random.percent(25) {
             true => 44,

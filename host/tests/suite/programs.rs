@@ -8,7 +8,7 @@ use std::process::{Command, Stdio};
 const EMPTY: &str = "1001000000000010011111111000000100100101110111111111111111";
 
 /// What a program prints, and whether it succeeds.
-fn run(program: &str, arguments: &[&str], input: &str) -> (String, bool) {
+pub fn run(program: &str, arguments: &[&str], input: &str) -> (String, bool) {
     let mut child = Command::new(program)
         .args(arguments)
         .stdin(Stdio::piped())

@@ -6,16 +6,16 @@ use Rattle.seats.proofs.dup.Tie as tie
 seek-requires : tie.Need-seek-requires
 seek-requires c κs = search needs
 
-field-requires : tie.Need-field-requires
-field-requires c κs = search needs
+named-requires : tie.Need-named-requires
+named-requires c κs = search needs
 
 returns : tie.Need-returns
-returns c = rw (← (c .before .seek .ensures)) (c .field .ensures)
+returns c = rw (← (c .before .seek .ensures)) (c .named .ensures)
 
 pub dup-spec : {M : Type 1} → statement M
 dup-spec =
     tie.close
     (tie.spec
     seek-requires
-    field-requires
+    named-requires
     returns)
