@@ -1,0 +1,3 @@
+-- What is answered to a line, in reading order.
+pub mod Lines
+pub mod Examples

@@ -1,0 +1,2 @@
+-- The worked groups, computed.
+pub mod All

@@ -1,0 +1,2 @@
+-- The worked groups.
+pub mod Cases

@@ -1,0 +1,3 @@
+-- How a group's answer reads, in reading order.
+pub mod Texts
+pub mod Examples

@@ -1,0 +1,3 @@
+-- What a reader of this crate's promises must believe, in reading order.
+pub mod Lines
+pub mod Examples

@@ -1,0 +1,104 @@
+-- `groups::main` is safe and ends. The loop's invariant: what is lent has its length, and as much of a line as is kept tells its answer. The
+-- measure is the number of turns that are left. Assumes nothing.
+use mathlib.Core.Path.{_≡_, refl, subst}
+use Prim.Native.Nat.{ℕ, _<_, _-_}
+use native.Mathlib.Omega.{arith}
+use borrow.Author.Needs.{needs}
+use lib.ListN.{length}
+use Rattle.group_answers.specs.Lines.{TellsLine}
+use Rattle.group_answers.proofs.Kept.{kept-tells}
+use Rattle.blocks.proofs.Stepping.{step-fits}
+use Rattle.groups.proofs.main.Statement.{statement}
+use Rattle.groups.proofs.main.Tie as tie
+
+abbrev Inv-loop : tie.InvT-loop
+Inv-loop block₀ line₀ out₀ input₀ q₀ turns₀ block line out input q turns = (65536 ≡ length block) × (65536 ≡ length line) × (4096 ≡ length out) × TellsLine (length line)
+
+abbrev μ-loop : tie.MeasureT-loop
+μ-loop block₀ line₀ out₀ input₀ q₀ turns₀ block line out input q turns = turns
+
+fewer : (n : ℕ) → 0 < n → n - 1 < n
+fewer n h = omega arith
+
+-- a line of the same length tells the same
+tells-as : {m n : ℕ} → TellsLine m → m ≡ n → TellsLine n
+tells-as t e = subst TellsLine e t
+
+large-buffer-requires : tie.Need-large-buffer-requires Inv-loop μ-loop
+large-buffer-requires c κs = search needs
+
+large-buffer-requires-2 : tie.Need-large-buffer-requires-2 Inv-loop μ-loop
+large-buffer-requires-2 c κs = search needs
+
+start-requires : tie.Need-start-requires Inv-loop μ-loop
+start-requires c κs = search needs
+
+loop-holds : tie.Need-loop-holds Inv-loop μ-loop
+loop-holds c = (c .before .before .large-buffer .ensures, c .before .large-buffer2 .ensures, refl, kept-tells _ (omega (arith, c .before .large-buffer2 .ensures)))
+
+goes-on-requires : tie.Need-goes-on-requires Inv-loop μ-loop
+goes-on-requires c κs = search needs
+
+slice-aggregate-next : tie.Need-slice-aggregate-next Inv-loop μ-loop
+slice-aggregate-next c = c .before .before .before .loop .inv .0
+
+slice-aggregate-next-2 : tie.Need-slice-aggregate-next-2 Inv-loop μ-loop
+slice-aggregate-next-2 c = c .before .before .before .before .loop .inv .1
+
+next-requires : tie.Need-next-requires Inv-loop μ-loop
+next-requires c κs = search needs
+
+slice-aggregate-answered : tie.Need-slice-aggregate-answered Inv-loop μ-loop
+slice-aggregate-answered c = omega (arith, c .before .before .before .before .before .before .before .before .loop .inv .1)
+
+slice-aggregate-answered-2 : tie.Need-slice-aggregate-answered-2 Inv-loop μ-loop
+slice-aggregate-answered-2 c = c .before .before .before .before .before .before .before .before .before .loop .inv .2
+
+answered-requires : tie.Need-answered-requires Inv-loop μ-loop
+answered-requires c κs = (tells-as (c .before .before .before .before .before .before .before .before .before .loop .inv .3) (omega (arith, c .before .before .before .before .before .before .before .before .before .loop .inv .1)), step-fits (c .before .before .before .before .before .before .before .before .goes-on .ensures (c .before .before .before .before .before .before .before .if1 .taken) .0) (c .before .before .before .before .next .ensures))
+
+sub-turns : tie.Need-sub-turns Inv-loop μ-loop
+sub-turns c = c .before .before .before .before .before .before .before .before .before .before .goes-on .ensures (c .before .before .before .before .before .before .before .before .before .if1 .taken) .1
+
+loop-less : tie.Need-loop-less Inv-loop μ-loop
+loop-less c = fewer _ (c .before .before .before .before .before .before .before .before .before .before .goes-on .ensures (c .before .before .before .before .before .before .before .before .before .if1 .taken) .1)
+
+loop-again : tie.Need-loop-again Inv-loop μ-loop
+loop-again c = (omega (arith, c .before .before .before .before .before .before .before .before .before .before .before .loop .inv .0), omega (arith, c .before .before .before .before .before .before .before .before .before .before .before .loop .inv .1), omega (arith, c .before .before .before .before .before .before .before .before .before .before .before .loop .inv .2), tells-as (c .before .before .before .before .before .before .before .before .before .before .before .loop .inv .3) (omega (arith, c .before .before .before .before .before .before .before .before .before .before .before .loop .inv .1)))
+
+slice-aggregate-flush : tie.Need-slice-aggregate-flush Inv-loop μ-loop
+slice-aggregate-flush c = c .before .before .before .loop .inv .2
+
+flush-requires : tie.Need-flush-requires Inv-loop μ-loop
+flush-requires c κs = search needs
+
+finish-requires : tie.Need-finish-requires Inv-loop μ-loop
+finish-requires c κs = search needs
+
+returns : tie.Need-returns Inv-loop μ-loop
+returns c = search needs
+
+pub main-spec : {M : Type 1} → statement M
+main-spec =
+    tie.close
+    (tie.spec
+    Inv-loop
+    μ-loop
+    large-buffer-requires
+    large-buffer-requires-2
+    start-requires
+    loop-holds
+    goes-on-requires
+    slice-aggregate-next
+    slice-aggregate-next-2
+    next-requires
+    slice-aggregate-answered
+    slice-aggregate-answered-2
+    answered-requires
+    sub-turns
+    loop-less
+    loop-again
+    slice-aggregate-flush
+    flush-requires
+    finish-requires
+    returns)

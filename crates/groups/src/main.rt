@@ -1,0 +1,72 @@
+// Reads balise groups from standard input, one a line, and prints what the telegrams of each say together:
+//
+//     TELEGRAM ..     0 to 16 telegrams in order of arrival, one space between two: each is 1 to 1,024 characters 0 and 1, or its bytes in
+//                     hexadecimal, a colon and its number of bits
+//
+// The answer is `ok`, the number of packets, and each packet as the N_PIG of its balise, a dot and its number in its telegram; or `refused`, the number
+// of the refusal, which telegram or balise it is, and the place. The answer to any other line is `not a question`.
+ghost use mathlib.Core.Path.{_≡_};
+ghost use mathlib.Core.Bool.{true, false, cond};
+ghost use mathlib.Core.List.{List, []};
+ghost use Prim.Native.Nat.{ℕ, _<_, _≤_};
+ghost use lib.ListN.{length, take};
+ghost use Rattle.group_answers.specs.Lines.{answerTo, TellsLine};
+ghost use Rattle.queue.specs.Waiting.{Joins};
+use blocks::Input;
+use libc::STDERR_FILENO;
+use queue::Queue;
+
+// A proved loop has to end, and nothing says that the input does. So the loop counts its turns down, from a number that no run
+// uses up.
+fn main() {
+    let mut block = io::large_buffer();
+    let mut line = io::large_buffer();
+    let mut out = [0u8; 4096];
+    let mut input = blocks::start();
+    let mut q = Queue {
+        waiting: 0,
+        lost: false,
+    };
+    let mut turns = u64::MAX;
+    while goes_on(input, q, turns) {
+        input = blocks::next(&mut block, &mut line, input);
+        q = answered(&line, input, &mut out, q);
+        turns -= 1;
+    }
+    finish(input, queue::flush(&out, q));
+}
+
+// Whether to read on. Once a write failed, no further answer can arrive whole.
+fn goes_on(input: Input, q: Queue, turns: u64) -> bool
+    ensures { λ r. ⌜ (r ≡ true → (input .ended ≡ false) × (0 < turns)) ⌝ }
+{
+    if q.lost {
+        return false;
+    }
+    if input.ended {
+        return false;
+    }
+    0 < turns
+}
+
+// Puts the answer to the line in hand, if it is whole: to every text of which as much is kept as is lent for it.
+fn answered(line: &[u8], input: Input, out: &mut [u8], q: Queue) -> Queue
+    requires { ⌜ TellsLine (length (now line)) × (input .kept ≤ length (now line)) ⌝ }
+    ensures { λ r. ⌜ ((text : List ℕ) → take (input .kept) (now (line .entry)) ≡ take (length (now (line .entry))) text → Joins (cond (input .whole) (answerTo text) []) q (now (out .entry)) r (now (out .exit))) ⌝ }
+{
+    if input.whole {
+        let n = input.kept;
+        return group_answers::respond(&line[..n], out, q);
+    }
+    q
+}
+
+// What could not be read or written is said on standard error, since standard output lacks it.
+fn finish(input: Input, q: Queue) {
+    if input.failed {
+        io::write_all(STDERR_FILENO, b"groups: reading failed\n");
+    }
+    if q.lost {
+        io::write_all(STDERR_FILENO, b"groups: writing failed\n");
+    }
+}
