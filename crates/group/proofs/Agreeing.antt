@@ -1,23 +1,20 @@
 -- What the tests of a group come to, over any telegrams, and the loops that make them. Assumes nothing.
-use mathlib.Core.Bool.{Bool, true, false, cond, not, _&&_, _||_}
-use mathlib.Core.List.{List, [], _∷_, _++_}
+use mathlib.Core.Bool.{Bool, true, false, _&&_}
+use mathlib.Core.List.{List, [], _∷_}
 use mathlib.Core.Path.{_≡_, refl, sym, ap, ap₂, _∙_}
-use Prim.Native.Nat.{ℕ, zero, suc, _+_, _-_, _≤_, _<_}
-use native.Mathlib.Numerals.{add-one}
+use Prim.Native.Nat.{ℕ, suc, _-_}
 use native.Mathlib.Omega.{arith}
-use borrow.Author.Tests.{eq-eqb, ne-eqb, eqb-true, eqb-false, le-leb, lt-leb, leb-true}
+use borrow.Author.Tests.{eq-eqb, eqb-true}
 use lib.Dec.{eqb, leb}
-use lib.ListN.{length, getD, take, drop}
+use lib.ListN.{length, drop}
 use Rattle.bits.specs.Bits.{bytesFor}
-use Rattle.format.specs.Fields.{Field, N-TOTAL, NID-C, NID-BG, Q-LINK, M-MCOUNT}
+use Rattle.format.specs.Fields.{Field, N-TOTAL, NID-C, NID-BG, Q-LINK}
 use Rattle.format.specs.Rules.{paper}
 use Rattle.format.specs.Telegrams.{Entry}
-use Rattle.group.specs.Groups.{Part, held, sameIn, agree, every, pairwise, standing, once, grouped, inOrder, matches, counted, arrived, parts}
+use Rattle.group.specs.Groups.{Part, held, sameIn, agree, every, pairwise, once, grouped, arrived, parts}
 use Rattle.group.specs.Groups.Arrived.{all}
-use Rattle.group.specs.Walks.{Arrives, Lineup, Front, Seated, telegramsOf, alike, chief}
-use Rattle.group.proofs.Arrival.{first-of, once-at, grouped-once}
-use Rattle.group.proofs.Held.{front-held, front-headed}
-use Rattle.group.proofs.Walking.{Along, Turn, along-first, along-turn, along-end}
+use Rattle.group.specs.Walks.{Arrives, telegramsOf, alike, chief}
+use Rattle.group.proofs.Arrival.{first-of}
 
 abbrev Telegrams : Type 0
 Telegrams = List (List Entry)

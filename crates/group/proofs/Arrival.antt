@@ -1,11 +1,11 @@
 -- "The order of arrival changes neither acceptance nor an accepted group's answer". Assumes nothing.
-use mathlib.Core.Bool.{Bool, true, false, cond, _&&_, and-comm, and-assoc}
+use mathlib.Core.Bool.{Bool, true, false, cond, _&&_}
 use mathlib.Core.List.{List, [], _∷_, _++_}
-use mathlib.Core.List.{List·Permᴰ, List·Permᴰ·nil, List·Permᴰ·cons, List·Permᴰ·swap, List·Permᴰ·trans, Permᴰ·refl, Permᴰ·symm}
+use mathlib.Core.List.{List·Permᴰ, List·Permᴰ·nil, List·Permᴰ·cons, List·Permᴰ·swap, List·Permᴰ·trans, Permᴰ·refl}
 use mathlib.Core.Path.{_≡_, refl, sym, ap, ap₂, _∙_, subst}
 use Prim.Native.Nat.{ℕ, zero, suc, _+_, _≤_, _<_}
 use native.Mathlib.Omega.{arith}
-use borrow.Author.Tests.{eqb-true, eqb-false, eq-eqb, ne-eqb, le-leb}
+use borrow.Author.Tests.{eqb-true, eqb-false, eq-eqb, ne-eqb}
 use lib.Dec.{eqb, leb}
 use lib.ListN.{length}
 use Rattle.format.specs.Fields.{Field, N-PIG, N-TOTAL}
@@ -13,7 +13,7 @@ use Rattle.format.specs.Rules.{Terms}
 use Rattle.format.specs.Telegrams.{Entry, Result}
 use Rattle.format.specs.Telegrams.Result.{accepted, refused}
 use Rattle.states.specs.Reader.{checked}
-use Rattle.group.specs.Groups.{Part, parts, Arrived, before, arrival, arrived, held, every, pairwise, sameIn, agree, standing, once, grouped, inOrder, Message, Member, lined, message, judged, group, fault}
+use Rattle.group.specs.Groups.{Part, parts, Arrived, arrival, arrived, held, every, pairwise, sameIn, agree, standing, once, grouped, inOrder, Member, lined, message, judged, group, fault}
 use Rattle.group.specs.declared.Cause.the-variants.{Identity, Room}
 use Rattle.group.specs.Groups.Arrived.{all, stops}
 use Rattle.group.specs.Groups.Message.{lists, refuses}

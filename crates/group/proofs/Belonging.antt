@@ -1,8 +1,8 @@
 -- The first test of 21: all telegrams have the first one's identity, in one number, and the N_TOTAL that their count asks for. Assumes nothing.
-use mathlib.Core.Bool.{Bool, true, false, cond, _&&_}
+use mathlib.Core.Bool.{Bool, true, false, _&&_}
 use mathlib.Core.List.{List, [], _∷_}
 use mathlib.Core.Path.{_≡_, refl, sym, ap, ap₂, _∙_}
-use Prim.Native.Nat.{ℕ, zero, suc, _+_, _-_, _*_, _/_, _%_, _^_, _≤_, _<_, min}
+use Prim.Native.Nat.{ℕ, suc, _+_, _-_, _*_, _/_, _%_, _^_, _≤_, _<_, min}
 use native.Mathlib.Nat.{div-div-eq-div-mul}
 use native.Mathlib.Omega.{arith}
 use borrow.Author.Tests.{eq-eqb, ne-eqb, eqb-true, eqb-false}
@@ -20,7 +20,7 @@ use Rattle.group.specs.Groups.{held, sameIn, agree, every}
 use Rattle.group.specs.Walks.{Arrives, Front, telegramsOf, alike, chief}
 use Rattle.group.proofs.Held.{front-held, front-headed, front-size}
 use Rattle.group.proofs.Walking.{Along, along-first, along-turn, along-end}
-use Rattle.group.proofs.Agreeing.{like, alike-first, agree-self, telegrams-count}
+use Rattle.group.proofs.Agreeing.{like, alike-first, telegrams-count}
 
 abbrev Telegrams : Type 0
 Telegrams = List (List Entry)

@@ -1,27 +1,25 @@
 -- Copies: two telegrams compared behind their headers, and what M_DUP names. Assumes nothing.
-use mathlib.Core.Bool.{Bool, true, false, cond, not, _&&_, _||_}
-use mathlib.Core.List.{List, [], _∷_, _++_}
-use mathlib.Core.Option.{Option, some, none}
+use mathlib.Core.Bool.{Bool, true, false, cond, _&&_}
+use mathlib.Core.List.{List, [], _∷_}
+use mathlib.Core.Option.{some, none}
 use mathlib.Core.Path.{_≡_, refl, sym, ap, ap₂, _∙_}
-use Prim.Native.Nat.{ℕ, zero, suc, _+_, _-_, _*_, _≤_, _<_, min}
+use Prim.Native.Nat.{ℕ, suc, _+_, _-_, _*_, _≤_, _<_}
 use native.Mathlib.Numerals.{add-one}
 use native.Mathlib.Omega.{arith}
-use borrow.Author.Tests.{eq-eqb, ne-eqb, eqb-true, eqb-false, le-leb}
+use borrow.Author.Tests.{ne-eqb, eqb-true, eqb-false, le-leb}
 use lib.Dec.{eqb}
 use lib.ListN.{length, take, drop, length-drop}
-use lib.Seq.{take-all, drop-drop, length-take-le}
+use lib.Seq.{take-all, length-take-le}
 use Rattle.bits.specs.Bits.{bitsOf, bytesFor, same}
 use Rattle.bits.proofs.Bytes.{length-bitsOf}
 use Rattle.headers.specs.Headers.{sameBodies}
 use Rattle.seats.specs.Seats.{seatOf, samePackets}
-use Rattle.format.specs.Fields.{M-DUP}
 use Rattle.format.specs.Rules.{paper}
 use Rattle.format.specs.Telegrams.{Entry, bits}
 use Rattle.states.proofs.Accepting.{sent}
-use Rattle.group.specs.declared.Found.{Found}
 use Rattle.group.specs.declared.Found.the-variants.{At, Nowhere}
-use Rattle.group.specs.Groups.{held, body, copyOf, first, namesRight, miscopied, linked, inOrder}
-use Rattle.group.specs.Walks.{Lineup, Seated, Front, telegramsOf, seated, lineOf, preceding, following, foundOf}
+use Rattle.group.specs.Groups.{body, first, namesRight, miscopied, inOrder}
+use Rattle.group.specs.Walks.{Lineup, Seated, telegramsOf, seated, lineOf, preceding, following, foundOf}
 use Rattle.group.proofs.Held.{front-bits, front-sound, front-size}
 use Rattle.group.proofs.Lining.{line-turn, line-end, line-first, line-seat, seat-is}
 

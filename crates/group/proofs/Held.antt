@@ -4,9 +4,8 @@ use mathlib.Core.Option.{some}
 use mathlib.Core.Path.{_≡_, refl, sym, ap, _∙_}
 use Prim.Native.Nat.{ℕ, _+_, _-_, _*_, _^_, _≤_, _<_}
 use native.Mathlib.Omega.{arith}
-use lib.Dec.{T}
-use lib.ListN.{length, take, drop, length-append, length-drop, take-append-drop}
-use lib.Seq.{take-at, drop-at, take-add, take-take, take-append-le, drop-append-le, length-take-le}
+use lib.ListN.{length, take, drop, length-drop, take-append-drop}
+use lib.Seq.{take-at, drop-at, take-append-le, drop-append-le, length-take-le}
 use Rattle.bits.specs.Bits.{digits, valueOf, bitsOf, bytesFor}
 use Rattle.bits.specs.Take.{fieldBits}
 use Rattle.bits.proofs.Digits.{length-digits, valueOf-digits}
@@ -20,9 +19,8 @@ use Rattle.format.specs.Telegrams.Run.{last, more}
 use Rattle.format.specs.Telegrams.Result.{accepted}
 use Rattle.laws.proofs.Round.{all-append}
 use Rattle.laws.proofs.Demand2.{length-bits}
-use Rattle.laws.proofs.Steps.{going, going-on, over-mark, go-next}
+use Rattle.laws.proofs.Steps.{going-on, over-mark, go-next}
 use Rattle.laws.proofs.Points.{holding}
-use Rattle.states.specs.Reader.{checked}
 use Rattle.states.proofs.Answers.{Sound, check-judges, sized-is}
 use Rattle.headers.specs.Headers.{numberAt}
 use Rattle.headers.proofs.Numbers.{number-is}

@@ -11,14 +11,12 @@ use lib.ListN.{length}
 use Rattle.format.specs.Rules.{paper}
 use Rattle.format.specs.Telegrams.{Entry}
 use Rattle.format.specs.declared.Refusal.{Refusal}
-use Rattle.group.specs.declared.Came.the-variants.{All, Stops}
+use Rattle.group.specs.declared.Came.the-variants.{Stops}
 use Rattle.group.specs.declared.Cause.the-variants.{Room, Single, Identity, Counters, Copied}
 use Rattle.group.specs.declared.Fault.{Fault}
-use Rattle.group.specs.declared.Found.{Found}
 use Rattle.group.specs.declared.Found.the-variants.{At, Nowhere}
-use Rattle.group.specs.declared.Verdict.{Verdict}
 use Rattle.group.specs.declared.Verdict.the-variants.{Faulty, Fine}
-use Rattle.group.specs.Groups.{Arrived, arrived, parts, grouped, counted, miscopied, inOrder, Message, lined, message, listed, counting, collision, uncollided, uncopied, fault, group, judged, packetsNeeded}
+use Rattle.group.specs.Groups.{Arrived, arrived, parts, grouped, counted, miscopied, inOrder, Message, lined, message, listed, counting, collision, uncollided, uncopied, fault, group, judged}
 use Rattle.group.specs.Groups.Arrived.{all, stops}
 use Rattle.group.specs.Walks.{Arrives, Lineup, telegramsOf, those, lineOf, cameOf, foundOf, copyVerdict, lineVerdict, verdictOf, arrivalVerdict, groupVerdict, lastTest, judgedBy}
 

@@ -1,14 +1,13 @@
 -- The telegrams of a group by their N_PIG: one for each, found where it stands; and their counters. Assumes nothing.
-use mathlib.Core.Bool.{Bool, true, false, cond, not, _&&_, _||_}
+use mathlib.Core.Bool.{Bool, true, false, not, _&&_}
 use mathlib.Core.List.{List, [], _∷_, _++_}
-use mathlib.Core.Path.{_≡_, refl, sym, ap, ap₂, _∙_}
+use mathlib.Core.Path.{_≡_, refl, sym, ap, _∙_}
 use Prim.Native.Nat.{ℕ, zero, suc, _+_, _-_, _≤_, _<_}
 use native.Mathlib.Numerals.{add-one}
 use native.Mathlib.Omega.{arith}
-use borrow.Author.Tests.{eq-eqb, ne-eqb, eqb-true, eqb-false}
+use borrow.Author.Tests.{eq-eqb, ne-eqb, eqb-true}
 use lib.Dec.{eqb}
-use lib.ListN.{length, drop, length-drop}
-use Rattle.bits.specs.Bits.{bytesFor}
+use lib.ListN.{length, drop}
 use Rattle.format.specs.Fields.{M-DUP, M-MCOUNT}
 use Rattle.format.specs.Telegrams.{Entry}
 use Rattle.headers.specs.Headers.{numberAt, countersMatch, latestOf}
@@ -17,7 +16,7 @@ use Rattle.seats.specs.declared.Seat.{Seat}
 use Rattle.group.specs.Groups.{held, every, pairwise, standing, once, inOrder, matches, counted}
 use Rattle.group.specs.Walks.{Lineup, Seated, telegramsOf, chief, seated, lineOf}
 use Rattle.group.proofs.Arrival.{once-at, grouped-once}
-use Rattle.group.proofs.Held.{front-held, front-headed, front-size}
+use Rattle.group.proofs.Held.{front-held, front-headed}
 use Rattle.group.proofs.Seeking.{seat-seated}
 use Rattle.group.proofs.Agreeing.{telegrams-count}
 

@@ -5,11 +5,11 @@ use Prim.Native.Nat.{ℕ, zero, suc, _+_, _-_, _*_, _/_, _%_, _≤_, _<_, max}
 use native.Mathlib.Omega.{arith}
 use lib.ListN.{length}
 use Rattle.bits.specs.Bits.{valueOf}
-use Rattle.bits.specs.Take.{fieldBits, takeAt}
+use Rattle.bits.specs.Take.{fieldBits}
 use Rattle.bits.proofs.Fields.{field-in-field, field-lt, take-whole, take-past}
 use Rattle.format.specs.Fields.{NID-PACKET, Q-DIR, L-PACKET}
 use Rattle.format.specs.Rules.{paper}
-use Rattle.format.specs.Telegrams.{Entry, Divided, divided, bits, bitCount}
+use Rattle.format.specs.Telegrams.{Entry, divided, bits, bitCount}
 use Rattle.laws.proofs.Demand2.{length-bits}
 use Rattle.laws.proofs.Points.{holding}
 use Rattle.laws.proofs.Tile.{endMark, joined, divided-joined, bitCount-append, tiled}
@@ -20,11 +20,11 @@ use Rattle.states.specs.Lookback.{idIn, dirIn, longIn}
 use Rattle.sightings.specs.Sightings.{headOf, headAt, onSight, Glimpse, glimpsed, glimpses}
 use Rattle.sightings.specs.declared.Sighting.{Sighting}
 use Rattle.sightings.specs.declared.Sighting.the-variants.{Packet, Nothing}
-use Rattle.group.specs.Groups.{Member, Balise, held, isPacket, packetsFrom, packetsOf}
+use Rattle.group.specs.Groups.{Member, packetsFrom, packetsOf}
 use Rattle.group.specs.Walks.{Front}
 use Rattle.group.proofs.Heads.{IsHeaded, AllHeaded}
 use Rattle.group.proofs.FoundInBits.{Standing, telegram-standing}
-use Rattle.group.proofs.Held.{front-sound, front-number, front-size}
+use Rattle.group.proofs.Held.{front-sound, front-number}
 
 -- how many bits packets take
 abbrev pub taken : List (List Entry) → ℕ

@@ -2,9 +2,8 @@
 use mathlib.Core.Bool.{Bool, true, false, cond}
 use mathlib.Core.List.{List, [], _∷_}
 use mathlib.Core.Path.{_≡_, refl, sym, ap, ap₂, _∙_}
-use Prim.Native.Nat.{ℕ, _+_, _-_, _≤_, _<_, min}
+use Prim.Native.Nat.{ℕ, _+_, _-_, _≤_, min}
 use native.Mathlib.Omega.{arith}
-use borrow.Author.Tests.{eqb-true}
 use lib.Dec.{eqb}
 use lib.ListN.{length, drop, length-drop}
 use lib.Seq.{drop-drop}
@@ -17,7 +16,7 @@ use Rattle.seats.specs.declared.Seat.{Seat}
 use Rattle.group.specs.Groups.{held, standing, arrived, parts}
 use Rattle.group.specs.Walks.{Arrives, Front, Seated, telegramsOf}
 use Rattle.group.proofs.Held.{front-held, front-headed}
-use Rattle.group.proofs.Walking.{Turn, along-first, along-turn}
+use Rattle.group.proofs.Walking.{along-first, along-turn}
 
 -- ---- the first, and those behind it
 

@@ -1,8 +1,8 @@
 -- One telegram of a group after the other, by the bytes that they take. Assumes nothing.
-use mathlib.Core.Bool.{Bool, true, false, cond}
-use mathlib.Core.List.{List, [], _∷_, _++_}
+use mathlib.Core.Bool.{Bool, true, false}
+use mathlib.Core.List.{List, [], _∷_}
 use mathlib.Core.Path.{_≡_, refl, sym, ap, ap₂, _∙_}
-use Prim.Native.Nat.{ℕ, zero, suc, _+_, _-_, _≤_, _<_, min}
+use Prim.Native.Nat.{ℕ, suc, _+_, _-_, _≤_, _<_}
 use native.Mathlib.Numerals.{add-one}
 use native.Mathlib.Nat.{lt-of-not-le}
 use native.Mathlib.Decide.{decLe}
@@ -12,7 +12,7 @@ use lib.Dec.{eqb}
 use lib.ListN.{length, getD, take, drop, length-drop}
 use lib.Seq.{drop-cons, drop-drop, drop-length, take-length, take-all, length-take-le}
 use Rattle.bits.specs.Bits.{bytesFor}
-use Rattle.format.specs.Rules.{Terms, paper}
+use Rattle.format.specs.Rules.{paper}
 use Rattle.format.specs.Telegrams.{Entry, Result}
 use Rattle.format.specs.Telegrams.Result.{accepted, refused}
 use Rattle.format.specs.declared.Refusal.{Refusal}
@@ -20,9 +20,8 @@ use Rattle.format.specs.declared.Answer.the-variants.{Accepted, Refused}
 use Rattle.states.specs.Reader.{checked, answerOf}
 use Rattle.states.proofs.Answers.{check-judges, sized-is}
 use Rattle.headers.proofs.Numbers.{drop-all}
-use Rattle.group.specs.declared.Came.{Came}
 use Rattle.group.specs.declared.Came.the-variants.{All, Stops}
-use Rattle.group.specs.Groups.{Part, Arrived, arrived, arrival, before, parts}
+use Rattle.group.specs.Groups.{Arrived, arrived, arrival, before, parts}
 use Rattle.group.specs.Groups.Arrived.{all, stops}
 use Rattle.group.specs.Walks.{cameOf, partLength, telegramsOf, those, Arrives, Front}
 use Rattle.group.proofs.Arrival.{first-of, any-number}

@@ -1,14 +1,14 @@
 -- What the functions that make up `message::message` promise, and what those that are not public ask. Definitions alone.
 use mathlib.Core.Bool.{Bool, cond, _&&_, true}
-use mathlib.Core.List.{List, [], _∷_, _++_, map}
+use mathlib.Core.List.{List, [], _∷_}
 use mathlib.Core.Option.{Option, some, none}
 use mathlib.Core.Path.{_≡_}
-use Prim.Native.Nat.{ℕ, zero, suc, _+_, _-_, _≤_, min}
+use Prim.Native.Nat.{ℕ, suc, _+_, _-_, _≤_, min}
 use lib.Dec.{eqb, leb}
 use lib.ListN.{length, take, drop}
 use Rattle.bits.specs.Bits.{bytesFor}
 use Rattle.format.specs.Fields.{N-TOTAL}
-use Rattle.format.specs.Rules.{Terms, Earlier, paper}
+use Rattle.format.specs.Rules.{Terms, paper}
 use Rattle.format.specs.Telegrams.{Entry}
 use Rattle.format.specs.Telegrams.Result.{accepted}
 use Rattle.states.specs.Reader.{checked}
@@ -19,30 +19,7 @@ use Rattle.group.specs.declared.Found.{Found}
 use Rattle.group.specs.declared.Found.the-variants.{At, Nowhere}
 use Rattle.group.specs.declared.Verdict.{Verdict}
 use Rattle.group.specs.declared.Verdict.the-variants.{Faulty, Fine}
-use Rattle.group.specs.Groups.{
-  Arrived,
-  arrived,
-  parts,
-  held,
-  standing,
-  every,
-  pairwise,
-  agree,
-  grouped,
-  inOrder,
-  counted,
-  miscopied,
-  Member,
-  Message,
-  fault,
-  listed,
-  counting,
-  collision,
-  uncollided,
-  linked,
-  packetsOf,
-  packetsNeeded,
-}
+use Rattle.group.specs.Groups.{Arrived, arrived, parts, held, standing, every, pairwise, agree, grouped, inOrder, counted, miscopied, Member, Message, fault, listed, counting, collision, uncollided, packetsNeeded}
 use Rattle.group.specs.Groups.Arrived.{all, stops}
 use Rattle.group.specs.Groups.Message.{refuses}
 

@@ -1,6 +1,5 @@
 -- A cause's number is at most 23. Assumes nothing.
-use mathlib.Core.Path.{_≡_}
-use Prim.Native.Nat.{ℕ, _≤_}
+use Prim.Native.Nat.{_≤_}
 use native.Mathlib.Omega.{arith}
 use Rattle.format.proofs.Numbers.{number-in}
 use Rattle.group.specs.declared.Cause.{Cause}

@@ -1,12 +1,11 @@
 -- What `collect` answers, by what the line measures and by what is lent. Assumes nothing.
-use mathlib.Core.Path.{_≡_, refl, sym, ap, ap₂, _∙_}
-use mathlib.Core.Bool.{Bool, true, false, cond, _&&_}
+use mathlib.Core.Path.{_≡_, refl, sym, _∙_}
+use mathlib.Core.Bool.{true, false}
 use mathlib.Core.List.{List, [], _∷_}
 use mathlib.Core.Option.{Option, some, none}
 use Prim.Native.Nat.{ℕ, _≤_, _<_}
 use native.Mathlib.Omega.{arith}
 use borrow.Author.Tests.{le-leb, lt-leb}
-use lib.Dec.{leb}
 use lib.ListN.{length}
 use Rattle.words.specs.Words.{wordsIn}
 use Rattle.telegram_word.specs.Telegrams.{Telegram}
@@ -66,9 +65,6 @@ module _ (line bytes ns : List ℕ) (found : Measure) (m : found ≡ measured (t
   collects-not h e = collects-none line bytes ns (group-some line h ∙ measures-not (telegramsIn most (wordsIn line)) (sym m ∙ e))
 
   module _ (count total : ℕ) (e : found ≡ Telegrams count total) where
-    ts : List Telegram
-    ts = those (telegramsIn most (wordsIn line))
-
     are : Measures (telegramsIn most (wordsIn line)) count total
     are = measures (telegramsIn most (wordsIn line)) count total (sym m ∙ e)
 

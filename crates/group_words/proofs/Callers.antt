@@ -1,11 +1,11 @@
 -- What a caller of `collect` learns from each answer, and that 2,048 bytes and 16 numbers are room for every group. Assumes nothing.
-use mathlib.Core.Path.{_≡_, refl, sym, ap, _∙_}
+use mathlib.Core.Path.{_≡_, refl, sym, _∙_}
 use mathlib.Core.Bool.{Bool, true, false, cond}
-use mathlib.Core.List.{List, [], _∷_, _++_}
+use mathlib.Core.List.{List, [], _∷_}
 use mathlib.Core.Option.{Option, some, none}
-use Prim.Native.Nat.{ℕ, suc, _+_, _*_, _≤_}
+use Prim.Native.Nat.{ℕ, _*_, _≤_}
 use native.Mathlib.Omega.{arith}
-use borrow.Author.Tests.{le-leb, leb-true}
+use borrow.Author.Tests.{le-leb}
 use lib.ListN.{length, take, drop, length-append, length-map}
 use lib.Seq.{take-at}
 use Rattle.words.specs.Words.{wordsIn}
@@ -14,7 +14,7 @@ use Rattle.telegram_word.proofs.Answers.{bytes-few}
 use Rattle.group_words.specs.Lines.{most, telegramsIn, groupIn, bufferOf, countsOf, bytesOver, countsOver, roomy, collectedOf, bytesThen, countsThen, Collects}
 use Rattle.group_words.specs.declared.Collected.{Collected}
 use Rattle.group_words.specs.declared.Collected.the-variants.{Group, Not, Room}
-use Rattle.group_words.proofs.Walks.{Next, next}
+use Rattle.group_words.proofs.Walks.{next}
 
 -- ---- room
 

@@ -1,13 +1,13 @@
 -- The telegrams of a line, counted one by one: what `bytes_in` and the loop of `measured` go by. Assumes nothing.
 use mathlib.Core.Path.{_≡_, refl, sym, ap, ap₂, _∙_}
-use mathlib.Core.List.{List, [], _∷_, _++_}
+use mathlib.Core.List.{List, [], _∷_}
 use mathlib.Core.Option.{Option, some, none}
-use Prim.Native.Nat.{ℕ, zero, suc, _+_, _-_, _*_, _≤_, _<_}
+use Prim.Native.Nat.{ℕ, suc, _+_, _-_, _*_, _≤_, _<_}
 use native.Mathlib.Omega.{arith}
 use lib.ListN.{length, take, drop, length-append}
 use lib.Seq.{length-take-le}
 use Rattle.words.specs.Words.{wordEnd, wordsIn}
-use Rattle.telegram_word.specs.Telegrams.{Telegram, telegram, telegramIn, Lends}
+use Rattle.telegram_word.specs.Telegrams.{Telegram, telegramIn, Lends}
 use Rattle.telegram_word.specs.declared.Lent.{Lent}
 use Rattle.telegram_word.specs.declared.Lent.the-variants as lent
 use Rattle.telegram_word.proofs.Answers.{bytes-few, lent-bytes, lent-not, never-roomless}

@@ -1,23 +1,19 @@
 -- The telegrams of a line, put one behind the other: what the loop of `lay` goes by, and what `collect` answers. Assumes nothing.
 use mathlib.Core.Path.{_≡_, refl, sym, ap, ap₂, _∙_}
-use mathlib.Core.Bool.{Bool, true, false, cond}
-use mathlib.Core.List.{List, [], _∷_, _++_, map, map-append, append-nil, append-assoc}
-use mathlib.Core.Option.{Option, some, none}
-use Prim.Native.Nat.{ℕ, zero, suc, _+_, _-_, _≤_, _<_}
+use mathlib.Core.List.{List, [], _∷_, _++_, map-append, append-nil, append-assoc}
+use mathlib.Core.Option.{some, none}
+use Prim.Native.Nat.{ℕ, suc, _+_, _-_, _≤_, _<_}
 use native.Mathlib.Numerals.{add-one}
 use native.Mathlib.Omega.{arith}
-use borrow.Author.Tests.{le-leb, lt-leb}
+use borrow.Author.Tests.{le-leb}
 use lib.ListN.{length, take, drop, getD, set, length-append, length-drop, length-map, take-append-drop, drop-of-length-le}
 use lib.Seq.{length-take-le, take-all, take-at, drop-at, drop-drop, drop-cons, set-at, append-snoc}
 use Rattle.words.specs.Words.{wordEnd, wordsIn}
-use Rattle.telegram_word.specs.Telegrams.{Telegram, telegram, telegramIn, lentOf, roomy, Lends}
+use Rattle.telegram_word.specs.Telegrams.{Telegram, telegram, telegramIn, lentOf, Lends}
 use Rattle.telegram_word.specs.declared.Lent.{Lent}
-use Rattle.telegram_word.specs.declared.Lent.the-variants.{Bytes, Not, Room}
+use Rattle.telegram_word.specs.declared.Lent.the-variants.{Bytes}
 use Rattle.telegram_word.proofs.Answers.{Told, lent-bytes}
-use Rattle.group_words.specs.Lines.{joined, most, those, telegramsIn, groupIn, bufferOf, countsOf, bytesOver, countsOver, measured, Collects}
-use Rattle.group_words.specs.declared.Measure.{Measure}
-use Rattle.group_words.specs.declared.Measure.the-variants as measure
-use Rattle.group_words.specs.declared.Collected.the-variants as collected
+use Rattle.group_words.specs.Lines.{most, those, telegramsIn, bufferOf, countsOf, bytesOver, countsOver}
 use Rattle.group_words.proofs.Walks.{wordsFrom, words-all, words-none, end-inside, words-next, Next, next}
 
 -- ---- one telegram more

@@ -1,5 +1,5 @@
 -- The words of a line from a place on, and the first of them as a telegram. Assumes nothing.
-use mathlib.Core.Path.{_≡_, refl, sym, ap, _∙_}
+use mathlib.Core.Path.{_≡_, refl}
 use mathlib.Core.Bool.{Bool, true, false, cond}
 use mathlib.Core.List.{List, [], _∷_}
 use mathlib.Core.Option.{Option, some, none}
@@ -8,7 +8,7 @@ use native.Mathlib.Omega.{arith}
 use borrow.Author.Tests.{le-leb, lt-leb, leb-true, leb-false}
 use lib.Dec.{leb}
 use lib.ListN.{length, take, drop, length-drop}
-use Rattle.words.specs.Words.{upTo, wordEnd, wordsIn}
+use Rattle.words.specs.Words.{wordEnd, wordsIn}
 use Rattle.words.proofs.Marks.{up-within}
 use Rattle.words.proofs.Splits.{word-here, word-there}
 use Rattle.telegram_word.specs.Telegrams.{Telegram, telegramIn}

@@ -1,6 +1,6 @@
 -- The first 32 bits of a telegram as a window of four bytes, and the header's numbers inside them. Assumes nothing.
 use mathlib.Core.Bool.{Bool, true, false, _&&_}
-use mathlib.Core.List.{List, [], _∷_, _++_}
+use mathlib.Core.List.{List}
 use mathlib.Core.Path.{_≡_, refl, sym, ap, _∙_}
 use Prim.Native.Nat.{ℕ, _+_, _-_, _*_, _/_, _%_, _^_, _≤_, _<_}
 use native.Mathlib.Nat.{lt-of-not-le, zero-div, zero-mod}
@@ -11,12 +11,12 @@ use lib.Dec.{leb}
 use lib.ListN.{length, take, drop, getD, length-drop, take-append-drop}
 use lib.Seq.{drop-at, length-take-le}
 use Rattle.bits.specs.Bits.{bitsOf, valueOf}
-use Rattle.bits.specs.Take.{fieldBits, inside, takeAt}
+use Rattle.bits.specs.Take.{fieldBits, inside}
 use Rattle.bits.proofs.Bytes.{bitsOf-append, length-bitsOf}
 use Rattle.bits.proofs.Fields.{field-in-field, take-outside}
 use Rattle.bits.proofs.Windows.{window-is}
 use Rattle.headers.specs.Headers.{numberOr0, numberAt, frontOf}
-use Rattle.headers.proofs.Numbers.{drop-all, number-is}
+use Rattle.headers.proofs.Numbers.{number-is}
 
 -- where there are not 58 bits, no number of a header is there
 and-false : (a b : Bool) → (a && b && false) ≡ false

@@ -2,16 +2,16 @@
 use mathlib.Core.Bool.{Bool, true, false, _&&_}
 use mathlib.Core.List.{List, [], _∷_}
 use mathlib.Core.Path.{_≡_, refl, sym, ap, ap₂, _∙_}
-use Prim.Native.Nat.{ℕ, zero, suc, _+_, _-_, _*_, _≤_, _<_}
+use Prim.Native.Nat.{ℕ, zero, suc, _+_, _-_, _*_, _≤_}
 use native.Mathlib.Omega.{arith}
 use borrow.Author.Tests.{eq-eqb, ne-eqb, eqb-true, eqb-false}
-use lib.Dec.{eqb, leb}
+use lib.Dec.{eqb}
 use lib.ListN.{length, take, drop, length-drop}
-use lib.Seq.{take-all, take-add, take-take, drop-at, drop-drop, length-take-le}
+use lib.Seq.{take-add, take-take, drop-at, drop-drop, length-take-le}
 use Rattle.bits.specs.Bits.{bitsOf, valueOf, digits, Below, same}
 use Rattle.bits.proofs.Digits.{digits-valueOf}
 use Rattle.bits.proofs.Bytes.{below-take, below-drop, below-bitsOf, length-bitsOf}
-use Rattle.headers.specs.Headers.{numberAt, sameBodies}
+use Rattle.headers.specs.Headers.{numberAt}
 use Rattle.headers.proofs.Numbers.{drop-all, number-is}
 
 -- ---- the same

@@ -2,11 +2,10 @@
 //
 // No function asks anything of its caller: where the bytes do not hold what is looked for, the definitions in specs/ say what it finds.
 ghost use mathlib.Core.Path.{_≡_};
-ghost use mathlib.Core.Bool.{_&&_};
 ghost use Prim.Native.Nat.{_+_, _*_, _≤_, min};
-ghost use lib.Dec.{eqb, leb};
+ghost use lib.Dec.{leb};
 ghost use lib.ListN.{length, take, drop};
-ghost use Rattle.bits.specs.Bits.{bitsOf, bytesFor, same};
+ghost use Rattle.bits.specs.Bits.{bitsOf, same};
 ghost use Rattle.headers.specs.Headers.{numberAt, frontOf, belongsTo, sameBodies, countersMatch, latestOf};
 use bits::Cursor;
 use bits::Taken;

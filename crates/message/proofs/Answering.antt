@@ -18,7 +18,6 @@ use Rattle.group.specs.Walks.{Lineup, groupVerdict, packetsOfAll, lastTest, jud
 use Rattle.group.proofs.Judging.{group-judged, Ready, fine-ready}
 use Rattle.group.proofs.Enough.{lineup-most}
 use Rattle.message.specs.Passing.{Stores, clashOf}
-use Rattle.message.specs.declared.Clash.{Clash}
 use Rattle.message.specs.declared.Clash.the-variants.{Free, At}
 
 module _ (s ns pigs numbers : List ℕ) (room : ℕ) (r : room ≡ min (length pigs) (length numbers)) where

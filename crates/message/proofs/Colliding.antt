@@ -3,7 +3,7 @@ use mathlib.Core.Bool.{Bool, true, false, cond}
 use mathlib.Core.List.{List, [], _∷_, _++_}
 use mathlib.Core.Option.{Option, some, none}
 use mathlib.Core.Path.{_≡_, refl, sym, ap, _∙_}
-use Prim.Native.Nat.{ℕ, zero, suc, _+_, _≤_, _<_}
+use Prim.Native.Nat.{ℕ, _+_, _≤_, _<_}
 use native.Mathlib.Omega.{arith}
 use lib.ListN.{length, drop, replicate, length-set, length-replicate}
 use Rattle.format.specs.Rules.{Earlier, clash, collidesAmong}
@@ -13,11 +13,11 @@ use Rattle.sightings.specs.Sightings.{Glimpse, glimpses}
 use Rattle.group.specs.Groups.{Member, collision}
 use Rattle.group.specs.Walks.{Lineup, packetsOfAll}
 use Rattle.group.proofs.Packeting.{numbered}
-use Rattle.message.specs.Passing.{counted, hits, noted, passed, tableThen, Passes, clashOf}
+use Rattle.message.specs.Passing.{counted, hits, noted, tableThen, Passes, clashOf}
 use Rattle.message.specs.declared.Clash.{Clash}
 use Rattle.message.specs.declared.Clash.the-variants.{Free, At}
 use Rattle.message.proofs.Tables.{Tabled, tabled-none, metAfter, Passing, passing}
-use Rattle.message.proofs.Gathering.{restFrom, dupBefore, rest-first, rest-end, rest-turn, dup-next, size-is, sights, sights-small}
+use Rattle.message.proofs.Gathering.{restFrom, dupBefore, rest-first, rest-end, rest-turn, dup-next, size-is, sights-small}
 
 abbrev orElse : Option Member → Option Member → Option Member
 orElse none o = o

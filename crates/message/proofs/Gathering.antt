@@ -1,22 +1,21 @@
 -- The balises of a group one after the other: what their packets, as they are seen in the buffer, have to do with the definition's list. Assumes nothing.
-use mathlib.Core.Bool.{Bool, true, false, cond, not, _&&_, _||_}
-use mathlib.Core.List.{List, [], _∷_, _++_, map, append-nil}
+use mathlib.Core.Bool.{Bool, true, false, cond, not}
+use mathlib.Core.List.{List, [], _∷_, _++_}
 use mathlib.Core.Option.{Option, some, none}
 use mathlib.Core.Path.{_≡_, refl, sym, ap, ap₂, _∙_}
-use Prim.Native.Nat.{ℕ, zero, suc, _+_, _-_, _≤_, _<_}
+use Prim.Native.Nat.{ℕ, suc, _+_, _-_, _≤_, _<_}
 use native.Mathlib.Numerals.{add-one}
 use native.Mathlib.Omega.{arith}
-use borrow.Author.Tests.{eq-eqb, ne-eqb}
+use borrow.Author.Tests.{ne-eqb}
 use lib.Dec.{eqb}
 use lib.ListN.{length, drop}
 use Rattle.format.specs.Fields.{M-DUP}
-use Rattle.format.specs.Rules.{paper}
 use Rattle.format.specs.Telegrams.{Entry}
 use Rattle.seats.specs.Seats.{seatOf, dupOf, linkedBy, baliseOf}
 use Rattle.seats.specs.declared.Balise as seats
 use Rattle.sightings.specs.Sightings.{Glimpse, glimpses}
 use Rattle.group.specs.Groups.{Member, held, linked, counting, listed, packetsOf, inOrder}
-use Rattle.group.specs.Walks.{Lineup, Seated, Front, telegramsOf, seated, preceding, lineOf, packetsOfAll}
+use Rattle.group.specs.Walks.{Lineup, Seated, telegramsOf, seated, preceding, packetsOfAll}
 use Rattle.group.proofs.Held.{front-size}
 use Rattle.group.proofs.Lining.{line-turn, line-end, line-first, line-seat, line-dup, seat-is}
 use Rattle.group.proofs.Packeting.{AllSmall, numbered, seen-packets, seen-small}

@@ -1,18 +1,16 @@
 -- The loops over the packets of one balise, from head to head. Assumes nothing.
-use mathlib.Core.Bool.{Bool, true, false, cond}
-use mathlib.Core.List.{List, [], _∷_, map}
+use mathlib.Core.Bool.{Bool, true, false}
+use mathlib.Core.List.{List, [], _∷_}
 use mathlib.Core.Path.{_≡_, refl, sym, ap, ap₂, _∙_, subst}
 use Prim.Native.Nat.{ℕ, zero, suc, _+_, _-_, _*_, _≤_, _<_}
 use native.Mathlib.Numerals.{add-one}
 use native.Mathlib.Omega.{arith}
 use lib.ListN.{length, getD, set, length-set}
-use lib.Seq.{sets, length-sets}
-use Rattle.sightings.specs.Sightings.{headAt, onSight, repeatsIn, joinedBy, Glimpse, glimpsed, glimpses}
-use Rattle.sightings.specs.declared.Sighting.{Sighting}
+use lib.Seq.{sets}
+use Rattle.sightings.specs.Sightings.{headAt, repeatsIn, joinedBy, Glimpse, glimpsed, glimpses}
 use Rattle.sightings.specs.declared.Sighting.the-variants.{Packet, Nothing}
-use Rattle.sightings.proofs.Finding.{Small, head-small}
-use Rattle.message.specs.Passing.{counted, hits, noted, passed, tableThen, Passes, countFrom, each, Keeps, Roomy}
-use Rattle.message.specs.declared.Clash.{Clash}
+use Rattle.sightings.proofs.Finding.{head-small}
+use Rattle.message.specs.Passing.{counted, passed, tableThen, Passes, countFrom, each, Keeps, Roomy}
 use Rattle.message.specs.declared.Clash.the-variants.{Free, At}
 
 -- ---- from head to head

@@ -1,20 +1,19 @@
 -- The table of ways has just what a list of the packets met would have. Assumes nothing.
 use mathlib.Core.Bool.{Bool, true, false, cond, not, _&&_, _||_}
-use mathlib.Core.List.{List, [], _∷_, _++_}
-use mathlib.Core.Option.{Option, some, none}
-use mathlib.Core.Path.{_≡_, refl, sym, ap, ap₂, _∙_}
-use Prim.Native.Nat.{ℕ, zero, suc, _+_, _≤_, _<_}
+use mathlib.Core.List.{List, [], _∷_}
+use mathlib.Core.Option.{none}
+use mathlib.Core.Path.{_≡_, refl, sym, ap, _∙_}
+use Prim.Native.Nat.{ℕ, zero, suc, _≤_, _<_}
 use native.Mathlib.Omega.{arith}
-use borrow.Author.Tests.{eq-eqb, ne-eqb, eqb-true, eqb-false}
+use borrow.Author.Tests.{eqb-true, eqb-false}
 use lib.Dec.{eqb}
 use lib.ListN.{length, getD, set, replicate, length-set, length-replicate, getD-replicate}
 use lib.Seq.{getD-set-same, getD-set-other}
 use Rattle.format.specs.Rules.{Earlier, clash, among, collidesAmong}
-use Rattle.sightings.specs.Sightings.{Glimpse, sharedBy, repeatsIn, joinedBy, besides}
+use Rattle.sightings.specs.Sightings.{Glimpse, sharedBy, joinedBy}
 use Rattle.group.specs.Groups.{Member, collision}
 use Rattle.group.proofs.Packeting.{AllSmall, numbered}
 use Rattle.message.specs.Passing.{hits, noted, passed, tableThen, clashOf}
-use Rattle.message.specs.declared.Clash.{Clash}
 use Rattle.message.specs.declared.Clash.the-variants.{Free, At}
 
 -- ---- ways

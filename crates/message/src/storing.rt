@@ -1,5 +1,4 @@
 // The packets of a group put into what is lent, once it is sure that none collides.
-ghost use mathlib.Core.Path.{_≡_};
 ghost use Prim.Native.Nat.{_≤_};
 ghost use lib.ListN.{length, drop};
 ghost use Rattle.group.specs.Walks.{Lineup, packetsOfAll};

@@ -1,10 +1,8 @@
 -- What a look for a head finds. Assumes nothing.
 use mathlib.Core.List.{List, []}
 use mathlib.Core.Path.{_≡_, refl, sym, ap, _∙_}
-use Prim.Native.Nat.{ℕ, _+_, _-_, _*_, _≤_, _<_, max}
+use Prim.Native.Nat.{ℕ, _+_, _-_, _≤_, _<_, max}
 use native.Mathlib.Omega.{arith}
-use native.Mathlib.Nat.{lt-of-not-le}
-use native.Mathlib.Decide.{decLe}
 use lib.ListN.{length, take, drop, length-drop}
 use lib.Seq.{take-all}
 use Rattle.bits.specs.Take.{takeAt}
@@ -15,7 +13,6 @@ use Rattle.bits.proofs.Fields.{taken}
 use Rattle.headers.proofs.Numbers.{drop-all}
 use Rattle.states.specs.Lookback.{idIn, dirIn, longIn}
 use Rattle.sightings.specs.Sightings.{headOf, headAt}
-use Rattle.sightings.specs.declared.Sighting.{Sighting}
 use Rattle.sightings.specs.declared.Sighting.the-variants.{Packet, Nothing}
 
 -- there is no head in no bytes

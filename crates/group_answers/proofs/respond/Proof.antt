@@ -1,6 +1,6 @@
 -- `group_answers::respond` meets its contract: one law for each answer. Assumes nothing.
 use denote.Ref.{now}
-use mathlib.Core.Path.{refl, sym}
+use mathlib.Core.Path.{sym}
 use lib.Seq.{length-take-le}
 use Rattle.queue.proofs.Joining.{joins-as}
 use Rattle.group_words.proofs.Callers.{collects-gathered, collects-no-group, never-roomless}

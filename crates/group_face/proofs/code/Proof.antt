@@ -1,5 +1,5 @@
 -- `group_face::code` meets its contract. Assumes nothing.
-use mathlib.Core.Path.{sym, ap, _∙_}
+use mathlib.Core.Path.{sym, ap}
 use Rattle.group_face.specs.GroupCodes.{groupCode}
 use Rattle.group_face.proofs.Causes.{cause-most}
 use borrow.Author.Needs.{needs}

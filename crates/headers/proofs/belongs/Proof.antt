@@ -1,5 +1,4 @@
 -- `headers::belongs` meets its contract. Assumes nothing.
-use mathlib.Core.Path.{sym, _∙_}
 use borrow.Author.Tests.{eq-eqb, ne-eqb}
 use borrow.Author.Needs.{needs}
 use Rattle.headers.proofs.belongs.Statement.{statement}

@@ -1,9 +1,6 @@
 -- `headers::same_body` meets its contract. Assumes nothing.
-use denote.Ref.{now}
 use mathlib.Core.Path.{sym, _∙_}
 use borrow.Author.Tests.{eq-eqb, ne-eqb, not-true, not-false, leb-true}
-use Prim.Native.Nat.{_*_}
-use lib.ListN.{length, drop}
 use borrow.Author.Needs.{needs}
 use native.Mathlib.Omega.{arith}
 use Rattle.headers.proofs.same_body.Statement.{statement}

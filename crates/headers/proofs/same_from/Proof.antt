@@ -1,5 +1,4 @@
 -- `headers::same_from` meets its contract: what was passed is the same in both. The measure is how many bits are left. Assumes nothing.
-use denote.Ref.{now}
 use mathlib.Core.Path.{sym, _∙_}
 use Prim.Native.Nat.{_+_, _-_, _≤_}
 use lib.ListN.{drop}

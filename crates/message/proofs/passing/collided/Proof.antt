@@ -1,5 +1,4 @@
 -- `message::passing::collided` meets its contract: no packet of the balises that were passed collides, and the table has them all. The measure is how many are left. Assumes nothing.
-use mathlib.Core.Path.{sym, _∙_}
 use Prim.Native.Nat.{_-_}
 use lib.ListN.{length}
 use Rattle.message.proofs.Colliding.{Gathering, gathering-first, gathering-end, gathering-hit, gathering-on, gathering-long, pass-room}

@@ -2,7 +2,7 @@
 use denote.Ref.{now}
 use mathlib.Core.Path.{refl, sym, _∙_}
 use Prim.Native.Nat.{_-_}
-use lib.ListN.{drop, length-set}
+use lib.ListN.{drop}
 use borrow.Author.Tests.{not-true, not-false}
 use Rattle.sightings.specs.Sightings.{glimpses}
 use Rattle.sightings.proofs.Finding.{head-small}

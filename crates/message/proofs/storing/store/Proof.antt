@@ -1,5 +1,4 @@
 -- `message::storing::store` meets its contract: the packets of the balises that were passed are in both runs. The measure is how many are left. Assumes nothing.
-use mathlib.Core.Path.{sym, _∙_}
 use Prim.Native.Nat.{_-_}
 use lib.ListN.{length}
 use Rattle.message.proofs.Placing.{Storing, storing-first, storing-end, storing-room, pig-small, storing-on}

@@ -1,6 +1,6 @@
 -- `verdicts::identity::each_once` meets its contract: each N_PIG that was passed stands once. The measure is how many are left. Assumes nothing.
 use denote.Ref.{now}
-use mathlib.Core.Path.{_≡_, refl, sym, _∙_}
+use mathlib.Core.Path.{_≡_, refl, _∙_}
 use Prim.Native.Nat.{_≤_}
 use lib.ListN.{length}
 use Rattle.group.specs.Groups.{once}
