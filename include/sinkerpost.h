@@ -1,7 +1,7 @@
-/* Sinkerpost: checking and normalising balise telegrams (TB/T 3484-2017), proved.
+/* Sinkerpost: checking and normalising balise telegrams (TB/T 3484-2017), and the message of a group of them, proved.
  *
  * A telegram is n bits, 58 to 830, in ceil(n/8) bytes, the first bit in the highest bit of byte 0, unused low bits of the last
- * byte 0. Both functions answer every input: 0, or 1,024 times the number of a refusal plus its place, the bit, counted from 0, where
+ * byte 0. All functions answer every input. The first two answer 0, or 1,024 times the number of a refusal plus its place, the bit, counted from 0, where
  * the offending field begins or would begin. They keep nothing between calls, allocate nothing and touch nothing but the bytes that
  * they are lent.
  *
@@ -25,6 +25,20 @@ uint64_t sinkerpost_check(const uint8_t *bytes, size_t length, uint64_t n);
  * were; a refusal changes none. */
 uint64_t sinkerpost_normalise(const uint8_t *bytes, size_t length, uint64_t n, uint8_t *out, size_t room);
 
+/* Lists the packets of a balise group's message: the N_PIG of each in pigs and its number in its telegram in numbers, which have room for at least
+ * SINKERPOST_PACKETS each. The telegrams lie one behind the other in `bytes`, each from a fresh byte, and `sizes` has how many bits each has. The
+ * answer is how many packets there are, or a refusal, which changes neither run. In an archive of its own, libgroup_face.a. */
+uint64_t sinkerpost_group(const uint8_t *bytes, size_t length, const size_t *sizes, size_t telegrams, uint8_t *pigs, size_t pigs_room,
+                          uint8_t *numbers, size_t numbers_room);
+
+enum { SINKERPOST_PACKETS = 264 };
+
+/* Of what sinkerpost_group answers: 0 for a message, or the number of the refusal; the arrival number of the telegram that is refused by itself, or
+ * the N_PIG for 23 and for 10 over the group; and the place. */
+#define SINKERPOST_GROUP_NUMBER(answer) ((answer) >> 59)
+#define SINKERPOST_GROUP_WHICH(answer) ((answer) >> 10 & 0x1ffffffffffff)
+#define SINKERPOST_GROUP_PLACE(answer) ((answer) % 1024)
+
 /* The number of a refusal, and its place: 0 for 1 to 3, the L_PACKET for 8, the first bit past the end mark for 11. */
 #define SINKERPOST_NUMBER(answer) ((answer) / 1024)
 #define SINKERPOST_PLACE(answer) ((answer) % 1024)
@@ -41,7 +55,10 @@ enum {
     SINKERPOST_LENGTH = 8,     /* L_PACKET is not the number of bits that its packet takes */
     SINKERPOST_DIRECTION = 9,  /* a CTCS packet's Q_DIR differs from that of its ETCS-44 */
     SINKERPOST_REPEATED = 10,  /* a second packet of one NID_PACKET, other than 44, with the Q_DIR of an earlier one, or one of the two is 2 */
-    SINKERPOST_TRAILING = 11   /* bits follow the end mark */
+    SINKERPOST_TRAILING = 11,  /* bits follow the end mark */
+    SINKERPOST_IDENTITY = 21,  /* the telegrams are not one group: identity, positions, or how many there are */
+    SINKERPOST_COUNTERS = 22,  /* their counters do not match */
+    SINKERPOST_COPIED = 23     /* M_DUP names no balise, or one with other packets */
 };
 
 #ifdef __cplusplus

@@ -1,4 +1,4 @@
-/* The largest stack that check and normalise use: each runs on a stack of its own that was painted before. Standard input is as for
+/* The largest stack that check and normalise use: each runs on a painted stack. Standard input is as for
  * compare.c; the deepest mark over all telegrams is printed.
  */
 #define _GNU_SOURCE
@@ -6,19 +6,13 @@
 #include <stdio.h>
 #include <stdlib.h>
 #include <string.h>
-#include <ucontext.h>
 
+#include "painted.h"
 #include "sinkerpost.h"
 
-enum { STACK = 1 << 16, PAINT = 0x5c };
-
-static uint8_t stack[STACK] __attribute__((aligned(64)));
 static uint8_t bytes[4096], out[104];
 static size_t length;
 static uint64_t n;
-static ucontext_t here, there;
-
-static void nothing(void) {}
 
 static void check(void)
 {
@@ -28,27 +22,6 @@ static void check(void)
 static void normalise(void)
 {
     (void)sinkerpost_normalise(bytes, length, n, out, sizeof out);
-}
-
-/* How many bytes of the painted stack a function touches. */
-static size_t used(void (*function)(void))
-{
-    memset(stack, PAINT, sizeof stack);
-    getcontext(&there);
-    there.uc_stack.ss_sp = stack;
-    there.uc_stack.ss_size = sizeof stack;
-    there.uc_link = &here;
-    makecontext(&there, function, 0);
-    swapcontext(&here, &there);
-    size_t clean = 0;
-    while (clean < sizeof stack && stack[clean] == PAINT)
-        clean++;
-    return sizeof stack - clean;
-}
-
-static size_t larger(size_t a, size_t b)
-{
-    return a < b ? b : a;
 }
 
 int main(void)

@@ -10,6 +10,7 @@ use borrow.Author.Tests.{eqb-true, eq-eqb, le-leb, lt-leb}
 use lib.Dec.{eqb}
 use lib.ListN.{length, take}
 use Rattle.bits.specs.Bits.{bytesOf, bytesFor, same}
+use Rattle.bits.proofs.Same.{same-true, same-self}
 use Rattle.format.specs.Rules.{Terms}
 use Rattle.format.specs.Telegrams.{Entry, bits}
 use Rattle.format.specs.Telegrams.Result.{accepted, refused}
@@ -26,20 +27,6 @@ use Rattle.alike.specs.declared.Alike.the-variants.{Same, Other, First, 
 use Rattle.normals.proofs.Forms.{form, form-telegram, bits-long, holds, front}
 
 -- ---- lists compared
-
-pub same-true : (bs cs : List ℕ) → same bs cs ≡ true → bs ≡ cs
-same-true [] [] h = refl
-same-true [] (c ∷ cs) h = let z : _≡_ {A = ℕ} 0 1 = cc in absurd (omega arith)
-same-true (b ∷ bs) [] h = let z : _≡_ {A = ℕ} 0 1 = cc in absurd (omega arith)
-same-true (b ∷ bs) (c ∷ cs) h = by-first (eqb b c) refl h (same-true bs cs)
-  where
-    by-first : (t : Bool) → eqb b c ≡ t → (t && same bs cs) ≡ true → (same bs cs ≡ true → bs ≡ cs) → (b ∷ bs) ≡ (c ∷ cs)
-    by-first true e g f = ap₂ (λ (u : ℕ) (us : List ℕ). u ∷ us) (eqb-true b c e) (f g)
-    by-first false e g f = let z : _≡_ {A = ℕ} 0 1 = cc in absurd (omega arith)
-
-pub same-self : (bs : List ℕ) → same bs bs ≡ true
-same-self [] = refl
-same-self (b ∷ bs) = rw (eq-eqb b b refl) (same-self bs)
 
 same-false : (bs cs : List ℕ) → bs ≢ cs → same bs cs ≡ false
 same-false bs cs d = by-test (same bs cs) refl

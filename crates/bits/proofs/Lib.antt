@@ -2,6 +2,7 @@
 pub mod Digits
 pub mod Bytes
 pub mod Fields
+pub mod Same
 pub mod Once
 pub mod Loops
 pub mod Windows

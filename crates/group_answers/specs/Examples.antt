@@ -14,7 +14,7 @@ use Rattle.group.specs.Groups.{Member, fault, parts, arrived, grouped, message,
 use Rattle.group.specs.Groups.Message.{lists, refuses}
 use Rattle.group.specs.declared.Cause.the-variants.{Copied, Repeated, Single}
 use Rattle.format.specs.declared.Kind.the-variants.{Padding}
-use Rattle.group_words.specs.Lines.{telegramsIn, groupIn, bufferOf}
+use Rattle.group_words.specs.Lines.{telegramsIn, lineGroup, bufferOf}
 use Rattle.group_answers.specs.Lines.{memberTexts, messageText, answerTo}
 use Prim.Native.String as string
 
@@ -40,5 +40,5 @@ texts = refl
 -- the empty line, telegrams of no byte and no bit, and lines that are no question
 answers : map answerTo (textOf "" ∷ textOf ":0" ∷ textOf "1 :0" ∷ textOf "x" ∷ textOf "1  1" ∷ [])
     ≡ lineOf "refused 21 0 0" ∷ lineOf "refused 2 0 0" ∷ lineOf "refused 2 0 0" ∷ lineOf "not a question" ∷ lineOf "not a question" ∷ []
-unfolding answerTo messageText memberTexts digitsOf groupIn telegramsIn bufferOf wordsIn telegramIn bitsForm binary hexForm upTo hexOf hexed inPairs bytesIn numberIn decimalIn digitsFrom bytesOf packed filled valueOf group parts arrived message grouped checked
+unfolding answerTo messageText memberTexts digitsOf lineGroup telegramsIn bufferOf wordsIn telegramIn bitsForm binary hexForm upTo hexOf hexed inPairs bytesIn numberIn decimalIn digitsFrom bytesOf packed filled valueOf group parts arrived message grouped checked
 answers = refl

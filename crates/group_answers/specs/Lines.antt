@@ -12,7 +12,7 @@ use Rattle.telegram_word.specs.Telegrams.{Telegram}
 use Rattle.group.specs.Groups.{Member, Message, causeNumber, group, packetsNeeded}
 use Rattle.group.specs.Groups.Message.{lists, refuses}
 use Rattle.group_text.specs.Texts.{packetText, faultText}
-use Rattle.group_words.specs.Lines.{groupIn, bufferOf, countsOf}
+use Rattle.group_words.specs.Lines.{lineGroup, bufferOf, countsOf}
 
 -- "each packet as N_PIG, a dot, its number in its telegram"
 unfoldable pub memberTexts : List Member → List ℕ
@@ -35,7 +35,7 @@ textOf (some ts) = groupText ts
 
 -- what is printed for a line
 unfoldable pub answerTo : List ℕ → List ℕ
-answerTo line = textOf (groupIn line)
+answerTo line = textOf (lineGroup line)
 
 -- the first m characters of a line tell what is printed for it
 pub record TellsLine (m : ℕ) : Type 0 where

@@ -32,7 +32,7 @@ fn tell(s: &[u8], ns: &[usize], out: &mut [u8], q: Queue) -> Queue
         Reply::Packets(n) => group_text::packets(n, &pigs, &numbers, out, q),
         Reply::Refused(f) => {
             let cause = f.cause;
-            group_text::fault(message::number(cause), f.which, f.place, out, q)
+            group_text::fault(causes::number(cause), f.which, f.place, out, q)
         }
     }
 }

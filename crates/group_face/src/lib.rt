@@ -2,9 +2,9 @@
 ghost use mathlib.Core.Path.{_≡_};
 ghost use Rattle.format.specs.Rules.{paper};
 ghost use Rattle.group_face.specs.GroupCodes.{GroupAnswer, groupCode};
+use causes::number;
 use group::Reply;
 use message::message;
-use message::number;
 use word64::lower;
 
 // Lists the packets of a group's message: how many there are, or its refusal, which leaves both runs as they were.
@@ -20,7 +20,7 @@ pub extern "C" fn sinkerpost_group(
     code(message(bytes, ns, pigs, numbers))
 }
 
-// How many packets; or a refusal's number, which and place in one number, of which the last two go no further than 65,535 and 1,023.
+// How many packets; or a refusal's number, which and place in one number.
 fn code(r: Reply) -> u64
     ensures { λ c. ⌜ c ≡ groupCode r ⌝ }
 {
@@ -28,7 +28,7 @@ fn code(r: Reply) -> u64
         Reply::Packets(n) => n as u64,
         Reply::Refused(f) => {
             let cause = f.cause;
-            let head = number(cause) * 65536 + lower(f.which, 65535) as u64;
+            let head = number(cause) * 562949953421312 + lower(f.which, 562949953421311) as u64;
             head * 1024 + lower(f.place, 1023) as u64
         }
     }

@@ -9,28 +9,28 @@ use borrow.Author.Tests.{le-leb, lt-leb}
 use lib.ListN.{length}
 use Rattle.words.specs.Words.{wordsIn}
 use Rattle.telegram_word.specs.Telegrams.{Telegram}
-use Rattle.group_words.specs.Lines.{most, those, telegramsIn, groupIn, bufferOf, bytesOver, countsOver, roomy, measured, Collects}
+use Rattle.group_words.specs.Lines.{most, those, telegramsIn, lineGroup, bufferOf, bytesOver, countsOver, roomy, measured, Collects}
 use Rattle.group_words.specs.declared.Measure.{Measure}
 use Rattle.group_words.specs.declared.Measure.the-variants.{Telegrams, Not}
 use Rattle.group_words.specs.declared.Collected.the-variants as collected
 
 -- ---- by what the line is
 
-group-none : (line : List ℕ) → length line ≡ 0 → groupIn line ≡ some []
-unfolding groupIn
+group-none : (line : List ℕ) → length line ≡ 0 → lineGroup line ≡ some []
+unfolding lineGroup
 group-none [] e = refl
 group-none (c ∷ line) e = absurd (omega arith)
 
-group-some : (line : List ℕ) → (length line ≡ 0 → ⊥) → groupIn line ≡ telegramsIn most (wordsIn line)
-unfolding groupIn
+group-some : (line : List ℕ) → (length line ≡ 0 → ⊥) → lineGroup line ≡ telegramsIn most (wordsIn line)
+unfolding lineGroup
 group-some [] e = absurd (e refl)
 group-some (c ∷ line) e = refl
 
 module _ (line bytes ns : List ℕ) where
-  collects-none : groupIn line ≡ none → Collects line bytes ns collected.Not bytes ns
+  collects-none : lineGroup line ≡ none → Collects line bytes ns collected.Not bytes ns
   collects-none e = record { answer = rw e; bytesHeld = rw e; countsHeld = rw e }
 
-  module _ (ts : List Telegram) (e : groupIn line ≡ some ts) where
+  module _ (ts : List Telegram) (e : lineGroup line ≡ some ts) where
     collects-no-room : roomy ts bytes ns ≡ false → Collects line bytes ns collected.Room bytes ns
     collects-no-room r = record { answer = rw (e, r); bytesHeld = rw (e, r); countsHeld = rw (e, r) }
 

@@ -11,7 +11,7 @@ use lib.Seq.{take-at}
 use Rattle.words.specs.Words.{wordsIn}
 use Rattle.telegram_word.specs.Telegrams.{Telegram}
 use Rattle.telegram_word.proofs.Answers.{bytes-few}
-use Rattle.group_words.specs.Lines.{most, telegramsIn, groupIn, bufferOf, countsOf, bytesOver, countsOver, roomy, collectedOf, bytesThen, countsThen, Collects}
+use Rattle.group_words.specs.Lines.{most, telegramsIn, lineGroup, bufferOf, countsOf, bytesOver, countsOver, roomy, collectedOf, bytesThen, countsThen, Collects}
 use Rattle.group_words.specs.declared.Collected.{Collected}
 use Rattle.group_words.specs.declared.Collected.the-variants.{Group, Not, Room}
 use Rattle.group_words.proofs.Walks.{next}
@@ -31,8 +31,8 @@ words-limits k (word ∷ words) ts e =
       omega (arith, n .one-less, w .1, bytes-few word (n .telegram) (n .is), length-append (n .telegram .bytes) (bufferOf (n .rest))),
     )
 
-group-limits : (line : List ℕ) (ts : List Telegram) → groupIn line ≡ some ts → (length ts ≤ 16) × (length (bufferOf ts) ≤ 2048)
-unfolding groupIn bufferOf
+group-limits : (line : List ℕ) (ts : List Telegram) → lineGroup line ≡ some ts → (length ts ≤ 16) × (length (bufferOf ts) ≤ 2048)
+unfolding lineGroup bufferOf
 group-limits [] ts e = let s : [] ≡ ts = cc in rw (← s) (omega arith, omega arith)
 group-limits (c ∷ line) ts e = words-limits most (wordsIn (c ∷ line)) ts e
 
@@ -41,14 +41,14 @@ group-limits (c ∷ line) ts e = words-limits most (wordsIn (c ∷ line)) ts e
 -- the telegrams of the line stand in front of what was lent
 pub record Gathered (line after counts : List ℕ) (count total : ℕ) : Type 0 where
   pub telegrams : List Telegram
-  pub are : groupIn line ≡ some telegrams
+  pub are : lineGroup line ≡ some telegrams
   pub inside : total ≤ length after
   pub fewer : count ≤ length counts
   pub bytes : take total after ≡ bufferOf telegrams
   pub ns : take count counts ≡ countsOf telegrams
 
 module _ (line before list : List ℕ) where
-  gathered : (ts : List Telegram) (b : Bool) (count total : ℕ) → groupIn line ≡ some ts → cond b (Group (length ts) (length (bufferOf ts))) Room ≡ Group count total
+  gathered : (ts : List Telegram) (b : Bool) (count total : ℕ) → lineGroup line ≡ some ts → cond b (Group (length ts) (length (bufferOf ts))) Room ≡ Group count total
       → Gathered line (cond b (bytesOver ts before) before) (cond b (countsOver ts list) list) count total
   gathered ts true count total g e =
       let c : length ts ≡ count = cc in
@@ -68,15 +68,15 @@ module _ (line before list : List ℕ) where
   module _ (answered : Collected) (after counts : List ℕ) (h : Collects line before list answered after counts) where
     pub collects-gathered : (count total : ℕ) → answered ≡ Group count total → Gathered line after counts count total
     collects-gathered count total e =
-        rw (h .bytesHeld, h .countsHeld) (by (groupIn line) refl (sym (h .answer) ∙ e))
+        rw (h .bytesHeld, h .countsHeld) (by (lineGroup line) refl (sym (h .answer) ∙ e))
       where
-        by : (o : Option (List Telegram)) → groupIn line ≡ o → collectedOf o before list ≡ Group count total
+        by : (o : Option (List Telegram)) → lineGroup line ≡ o → collectedOf o before list ≡ Group count total
             → Gathered line (bytesThen o before list) (countsThen o before list) count total
         by none g x = let z : _≡_ {A = ℕ} 0 1 = cc in absurd (omega arith)
         by (some ts) g x = gathered ts (roomy ts before list) count total g x
 
-    pub collects-no-group : answered ≡ Not → groupIn line ≡ none
-    collects-no-group e = by (groupIn line) (sym (h .answer) ∙ e)
+    pub collects-no-group : answered ≡ Not → lineGroup line ≡ none
+    collects-no-group e = by (lineGroup line) (sym (h .answer) ∙ e)
       where
         by : (o : Option (List Telegram)) → collectedOf o before list ≡ Not → o ≡ none
         by none x = refl
@@ -88,9 +88,9 @@ module _ (line before list : List ℕ) where
 
     -- "lends enough"
     pub never-roomless : 2048 ≤ length before → 16 ≤ length list → answered ≡ Room → ⊥
-    never-roomless l m e = by (groupIn line) refl (sym (h .answer) ∙ e)
+    never-roomless l m e = by (lineGroup line) refl (sym (h .answer) ∙ e)
       where
-        by : (o : Option (List Telegram)) → groupIn line ≡ o → collectedOf o before list ≡ Room → ⊥
+        by : (o : Option (List Telegram)) → lineGroup line ≡ o → collectedOf o before list ≡ Room → ⊥
         by none g x = let z : _≡_ {A = ℕ} 0 1 = cc in omega arith
         by (some ts) g x =
             let w = group-limits line ts g in

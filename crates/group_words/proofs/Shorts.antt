@@ -20,7 +20,7 @@ use Rattle.words.proofs.Splits.{line-words}
 use Rattle.words.proofs.Written.{number-is}
 use Rattle.telegram_word.specs.Telegrams.{Telegram, telegram, bitsForm, inPairs, bytesIn, counted, hexForm, either, telegramIn}
 use Rattle.telegram_word.proofs.Hexes.{pairs-told}
-use Rattle.group_words.specs.Lines.{most, telegramsIn, groupIn}
+use Rattle.group_words.specs.Lines.{most, telegramsIn, lineGroup}
 use Rattle.group_words.proofs.Walks.{next}
 
 module _ (word : List ℕ) (t : Telegram) where
@@ -68,14 +68,14 @@ words-few k (word ∷ other ∷ words) ts e =
     let w = words-few (n .less) (other ∷ words) (n .rest) (n .on) in
     omega (arith, n .one-less, w, word-few word (n .telegram) (n .is), length-append word (32 ∷ lineOf (other ∷ words)))
 
-group-few : (line : List ℕ) (ts : List Telegram) → groupIn line ≡ some ts → length line ≤ 16400
-unfolding groupIn
+group-few : (line : List ℕ) (ts : List Telegram) → lineGroup line ≡ some ts → length line ≤ 16400
+unfolding lineGroup
 group-few [] ts e = omega arith
 group-few (c ∷ line) ts e = omega (arith, words-few most (wordsIn (c ∷ line)) ts e, ap length (line-words (c ∷ line)))
 
-pub group-long : (line : List ℕ) → 16400 < length line → groupIn line ≡ none
-group-long line h = by (groupIn line) refl
+pub group-long : (line : List ℕ) → 16400 < length line → lineGroup line ≡ none
+group-long line h = by (lineGroup line) refl
   where
-    by : (o : Option (List Telegram)) → groupIn line ≡ o → o ≡ none
+    by : (o : Option (List Telegram)) → lineGroup line ≡ o → o ≡ none
     by none e = refl
     by (some ts) e = absurd (omega (arith, group-few line ts e))

@@ -11,7 +11,7 @@ use Rattle.packing.specs.Packing.{binary}
 use Rattle.pieces.specs.Numbers.{decimalIn, digitsFrom}
 use Rattle.words.specs.Words.{upTo, wordsIn, lineOf, numberIn}
 use Rattle.telegram_word.specs.Telegrams.{Telegram, telegram, hexOf, hexed, inPairs, bytesIn, bitsForm, hexForm, telegramIn}
-use Rattle.group_words.specs.Lines.{telegramsIn, groupIn, bufferOf, collectedOf, bytesThen, countsThen}
+use Rattle.group_words.specs.Lines.{telegramsIn, lineGroup, bufferOf, collectedOf, bytesThen, countsThen}
 use Rattle.group_words.specs.declared.Collected.the-variants.{Group, Not, Room}
 use Prim.Native.String as string
 
@@ -20,24 +20,24 @@ textOf string.[] = []
 textOf (string._∷_ c s) = code c ∷ textOf s
 
 -- two telegrams, the second with a byte too many; bits; and "the empty line is the group of none"
-groups : map groupIn (textOf "9002:16 7F8100:9" ∷ textOf "101" ∷ textOf "" ∷ [])
+groups : map lineGroup (textOf "9002:16 7F8100:9" ∷ textOf "101" ∷ textOf "" ∷ [])
     ≡ some (telegram (0x90 ∷ 0x02 ∷ []) 16 ∷ telegram (0x7F ∷ 0x81 ∷ 0x00 ∷ []) 9 ∷ [])
     ∷ some (telegram (0xA0 ∷ []) 3 ∷ [])
     ∷ some []
     ∷ []
-unfolding groupIn telegramsIn wordsIn telegramIn bitsForm binary hexForm upTo hexOf hexed inPairs bytesIn numberIn decimalIn digitsFrom bytesOf packed filled valueOf
+unfolding lineGroup telegramsIn wordsIn telegramIn bitsForm binary hexForm upTo hexOf hexed inPairs bytesIn numberIn decimalIn digitsFrom bytesOf packed filled valueOf
 groups = refl
 
 -- a word that is no telegram in front, between and behind; two spaces, one in front, one behind, one alone; and a carriage return
-no-groups : map groupIn (textOf "x 1" ∷ textOf "1 2 1" ∷ textOf "1 00:08" ∷ textOf "1  1" ∷ textOf " 1" ∷ textOf "1 " ∷ textOf " " ∷ (textOf "1" ++ (13 ∷ [])) ∷ [])
+no-groups : map lineGroup (textOf "x 1" ∷ textOf "1 2 1" ∷ textOf "1 00:08" ∷ textOf "1  1" ∷ textOf " 1" ∷ textOf "1 " ∷ textOf " " ∷ (textOf "1" ++ (13 ∷ [])) ∷ [])
     ≡ replicate 8 none
-unfolding groupIn telegramsIn wordsIn telegramIn bitsForm binary hexForm upTo hexOf hexed inPairs bytesIn numberIn decimalIn digitsFrom bytesOf packed filled valueOf
+unfolding lineGroup telegramsIn wordsIn telegramIn bitsForm binary hexForm upTo hexOf hexed inPairs bytesIn numberIn decimalIn digitsFrom bytesOf packed filled valueOf
 no-groups = refl
 
 -- "0 to 16 TELEGRAMs": the most, and one more
-most-words : groupIn (lineOf (replicate 16 (textOf "1"))) ∷ groupIn (lineOf (replicate 17 (textOf "1"))) ∷ []
+most-words : lineGroup (lineOf (replicate 16 (textOf "1"))) ∷ lineGroup (lineOf (replicate 17 (textOf "1"))) ∷ []
     ≡ some (replicate 16 (telegram (0x80 ∷ []) 1)) ∷ none ∷ []
-unfolding groupIn telegramsIn wordsIn lineOf telegramIn bitsForm binary hexForm upTo hexOf hexed inPairs bytesIn numberIn decimalIn digitsFrom bytesOf packed filled valueOf
+unfolding lineGroup telegramsIn wordsIn lineOf telegramIn bitsForm binary hexForm upTo hexOf hexed inPairs bytesIn numberIn decimalIn digitsFrom bytesOf packed filled valueOf
 most-words = refl
 
 -- what lies behind is kept, and all of it where there is no room in either, or no group

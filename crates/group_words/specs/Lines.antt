@@ -33,9 +33,9 @@ abbrev pub most : ℕ
 most = 16
 
 -- "A line is one group: 0 to 16 TELEGRAMs in order of arrival; the empty line is the group of none"
-unfoldable pub groupIn : List ℕ → Option (List Telegram)
-groupIn [] = some []
-groupIn (c ∷ line) = telegramsIn most (wordsIn (c ∷ line))
+unfoldable pub lineGroup : List ℕ → Option (List Telegram)
+lineGroup [] = some []
+lineGroup (c ∷ line) = telegramsIn most (wordsIn (c ∷ line))
 
 -- "The buffer is the bytes of all words one behind the other"
 unfoldable pub bufferOf : List Telegram → List ℕ
@@ -73,9 +73,9 @@ countsThen (some ts) bytes ns = cond (roomy ts bytes ns) (countsOver ts ns) ns
 
 -- what is answered to a line, and what the lent runs then hold
 pub record Collects (line bytes ns : List ℕ) (answered : Collected) (bytes' ns' : List ℕ) : Type 0 where
-  pub answer : answered ≡ collectedOf (groupIn line) bytes ns
-  pub bytesHeld : bytes' ≡ bytesThen (groupIn line) bytes ns
-  pub countsHeld : ns' ≡ countsThen (groupIn line) bytes ns
+  pub answer : answered ≡ collectedOf (lineGroup line) bytes ns
+  pub bytesHeld : bytes' ≡ bytesThen (lineGroup line) bytes ns
+  pub countsHeld : ns' ≡ countsThen (lineGroup line) bytes ns
 
 -- ---- of the functions that are not public
 

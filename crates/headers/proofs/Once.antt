@@ -1,16 +1,12 @@
 -- Each promise of this crate is met by one answer alone. Assumes nothing.
 use mathlib.Core.Path.{refl, sym, _∙_}
 use Rattle.bits.proofs.Once.{OneOutcome}
-use Rattle.headers.proofs.field
 use Rattle.headers.proofs.front
 use Rattle.headers.proofs.identity
 use Rattle.headers.proofs.belongs
 use Rattle.headers.proofs.same_body
 use Rattle.headers.proofs.counters_match
 use Rattle.headers.proofs.latest
-
-pub field-once : OneOutcome field.ended field.Reads.Post
-field-once κs args r t u v p q = (p ∙ sym q, refl)
 
 pub front-once : OneOutcome front.ended front.Reads.Post
 front-once κs args r t u v p q = (p ∙ sym q, refl)

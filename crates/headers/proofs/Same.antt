@@ -10,26 +10,12 @@ use lib.ListN.{length, take, drop, length-drop}
 use lib.Seq.{take-add, take-take, drop-at, drop-drop, length-take-le}
 use Rattle.bits.specs.Bits.{bitsOf, valueOf, digits, Below, same}
 use Rattle.bits.proofs.Digits.{digits-valueOf}
+use Rattle.bits.proofs.Same.{same-true, same-self}
 use Rattle.bits.proofs.Bytes.{below-take, below-drop, below-bitsOf, length-bitsOf}
 use Rattle.headers.specs.Headers.{numberAt}
 use Rattle.headers.proofs.Numbers.{drop-all, number-is}
 
 -- ---- the same
-
-and-two : (a b : Bool) → (a && b) ≡ true → (a ≡ true) × (b ≡ true)
-and-two true true h = (refl, refl)
-and-two true false h = let z : _≡_ {A = ℕ} 0 1 = cc in absurd (omega arith)
-and-two false b h = let z : _≡_ {A = ℕ} 0 1 = cc in absurd (omega arith)
-
-pub same-true : (xs ys : List ℕ) → same xs ys ≡ true → xs ≡ ys
-same-true [] [] h = refl
-same-true [] (y ∷ ys) h = let z : _≡_ {A = ℕ} 0 1 = cc in absurd (omega arith)
-same-true (x ∷ xs) [] h = let z : _≡_ {A = ℕ} 0 1 = cc in absurd (omega arith)
-same-true (x ∷ xs) (y ∷ ys) h = let k = and-two (eqb x y) (same xs ys) h in ap₂ _∷_ (eqb-true x y (k .0)) (same-true xs ys (k .1))
-
-pub same-self : (xs : List ℕ) → same xs xs ≡ true
-same-self [] = refl
-same-self (x ∷ xs) = rw (eq-eqb x x refl) (same-self xs)
 
 -- of as many, by the first w and the others
 pub same-split : (w : ℕ) (xs ys : List ℕ) → length xs ≡ length ys → same xs ys ≡ (same (take w xs) (take w ys) && same (drop w xs) (drop w ys))

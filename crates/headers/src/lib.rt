@@ -16,7 +16,7 @@ use word64::window;
 const ANY: u64 = 255;
 
 // The number in the width bits from a bit on, of the n bits that lie from the byte start on.
-pub fn field(s: &[u8], start: usize, n: usize, bit: usize, width: usize) -> u64
+fn field(s: &[u8], start: usize, n: usize, bit: usize, width: usize) -> u64
     ensures { λ r. ⌜ r ≡ numberAt (drop start (now (s .entry))) n bit width ⌝ }
 {
     if s.len() < start {
@@ -29,6 +29,7 @@ pub fn field(s: &[u8], start: usize, n: usize, bit: usize, width: usize) -> u64
 }
 
 // The first 32 bits of the telegram at the byte start, in which N_PIG, N_TOTAL, M_DUP and M_MCOUNT stand. The compiler makes one load of them.
+// It is 0 where there are not the 8 bytes of the shortest telegram, as it is for every other number of a header.
 pub fn front(s: &[u8], start: usize) -> u64
     ensures { λ r. ⌜ r ≡ frontOf (drop start (now (s .entry))) ⌝ }
 {

@@ -31,7 +31,7 @@ use Rattle.laws.proofs.Apart.{Finished, finished, telegram-apart}
 -- ---- the rule of directions
 
 -- two numbers are one, either way round
-eqb-symmetric : (d e : ℕ) → eqb d e ≡ eqb e d
+pub eqb-symmetric : (d e : ℕ) → eqb d e ≡ eqb e d
 eqb-symmetric d e = by-test (eqb d e) refl
   where
     by-test : (b : Bool) → eqb d e ≡ b → b ≡ eqb e d
@@ -44,7 +44,7 @@ unfolding clash
 clash-symmetric d e = rw (eqb-symmetric d e, or-comm (eqb d 2) (eqb e 2))
 
 -- directions that a train running some way gets both collide
-served-clash : (way d e : ℕ) → serves d way ≡ true → serves e way ≡ true → clash d e ≡ true
+pub served-clash : (way d e : ℕ) → serves d way ≡ true → serves e way ≡ true → clash d e ≡ true
 unfolding clash
 served-clash way d e h k = by-tests (eqb d 2) (eqb e 2) (eqb d way) (eqb e way) refl refl h k
   where

@@ -56,7 +56,7 @@ pub values-more : (es : List Entry) (e : Entry) → length (values (es ++ (e ∷
 unfolding valuesIn
 values-more es e = rw (all-append valuesIn es (e ∷ []), length-append (values es) (e .value ∷ []))
 
-bitCount-joined : (ps : List (List Entry)) → bitCount (joined ps) ≡ bitCounts ps
+pub bitCount-joined : (ps : List (List Entry)) → bitCount (joined ps) ≡ bitCounts ps
 bitCount-joined [] = refl
 bitCount-joined (es ∷ ps) = rw (bitCount-append es (joined ps), bitCount-joined ps)
 
@@ -65,7 +65,7 @@ bitCount-divided es =
     let d = divided es in
     ap bitCount (sym (divided-joined es)) ∙ bitCount-append (d .header) (joined (d .packets)) ∙ ap (λ (n : ℕ). bitCount (d .header) + n) (bitCount-joined (d .packets))
 
-bitCounts-append : (ps qs : List (List Entry)) → bitCounts (ps ++ qs) ≡ bitCounts ps + bitCounts qs
+pub bitCounts-append : (ps qs : List (List Entry)) → bitCounts (ps ++ qs) ≡ bitCounts ps + bitCounts qs
 bitCounts-append [] qs = omega arith
 bitCounts-append (es ∷ ps) qs = let h = bitCounts-append ps qs in omega arith
 

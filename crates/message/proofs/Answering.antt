@@ -15,8 +15,8 @@ use Rattle.group.specs.declared.Verdict.the-variants.{Faulty, Fine}
 use Rattle.group.specs.Groups.{Member, Message, collision, fault, uncollided, group, groupIn, replyOf, over, Replied}
 use Rattle.group.specs.Groups.Message.{lists, refuses}
 use Rattle.group.specs.Walks.{Lineup, groupVerdict, packetsOfAll, lastTest, judgedBy}
-use Rattle.group.proofs.Judging.{group-judged, Ready, fine-ready}
-use Rattle.group.proofs.Enough.{lineup-most}
+use Rattle.group_laws.proofs.Judging.{group-judged, Ready, fine-ready}
+use Rattle.group_laws.proofs.Enough.{lineup-most}
 use Rattle.message.specs.Passing.{Stores, clashOf}
 use Rattle.message.specs.declared.Clash.the-variants.{Free, At}
 

@@ -12,7 +12,7 @@ use Rattle.seats.specs.declared.Balise as seats
 use Rattle.sightings.specs.Sightings.{Glimpse, glimpses}
 use Rattle.group.specs.Groups.{Member, collision}
 use Rattle.group.specs.Walks.{Lineup, packetsOfAll}
-use Rattle.group.proofs.Packeting.{numbered}
+use Rattle.group_laws.proofs.Packeting.{numbered}
 use Rattle.message.specs.Passing.{counted, hits, noted, tableThen, Passes, clashOf}
 use Rattle.message.specs.declared.Clash.{Clash}
 use Rattle.message.specs.declared.Clash.the-variants.{Free, At}

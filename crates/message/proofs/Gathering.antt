@@ -16,9 +16,9 @@ use Rattle.seats.specs.declared.Balise as seats
 use Rattle.sightings.specs.Sightings.{Glimpse, glimpses}
 use Rattle.group.specs.Groups.{Member, held, linked, counting, listed, packetsOf, inOrder}
 use Rattle.group.specs.Walks.{Lineup, Seated, telegramsOf, seated, preceding, packetsOfAll}
-use Rattle.group.proofs.Held.{front-size}
-use Rattle.group.proofs.Lining.{line-turn, line-end, line-first, line-seat, line-dup, seat-is}
-use Rattle.group.proofs.Packeting.{AllSmall, numbered, seen-packets, seen-small}
+use Rattle.group_laws.proofs.Held.{front-size}
+use Rattle.group_laws.proofs.Lining.{line-turn, line-end, line-first, line-seat, line-dup, seat-is}
+use Rattle.group_laws.proofs.Packeting.{AllSmall, numbered, seen-packets, seen-small}
 use Rattle.message.specs.Passing.{counted}
 
 -- the packets that are listed from the balise with this N_PIG on

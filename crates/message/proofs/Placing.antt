@@ -10,9 +10,9 @@ use Rattle.seats.specs.declared.Balise as seats
 use Rattle.sightings.specs.Sightings.{Glimpse, glimpses}
 use Rattle.group.specs.Groups.{Member}
 use Rattle.group.specs.Walks.{Lineup, packetsOfAll, telegramsOf}
-use Rattle.group.proofs.Packeting.{numbered}
-use Rattle.group.proofs.Enough.{lineup-most, grouped-few}
-use Rattle.group.proofs.Agreeing.{telegrams-count}
+use Rattle.group_laws.proofs.Packeting.{numbered}
+use Rattle.group_laws.proofs.Enough.{lineup-most, grouped-few}
+use Rattle.group_laws.proofs.Agreeing.{telegrams-count}
 use Rattle.message.specs.Passing.{counted, countFrom, each, Roomy, Keeps, Stores}
 use Rattle.message.proofs.Gathering.{restFrom, dupBefore, rest-first, rest-end, rest-turn, dup-next, size-is}
 

@@ -12,7 +12,7 @@ use lib.Seq.{getD-set-same, getD-set-other}
 use Rattle.format.specs.Rules.{Earlier, clash, among, collidesAmong}
 use Rattle.sightings.specs.Sightings.{Glimpse, sharedBy, joinedBy}
 use Rattle.group.specs.Groups.{Member, collision}
-use Rattle.group.proofs.Packeting.{AllSmall, numbered}
+use Rattle.group_laws.proofs.Packeting.{AllSmall, numbered}
 use Rattle.message.specs.Passing.{hits, noted, passed, tableThen, clashOf}
 use Rattle.message.specs.declared.Clash.the-variants.{Free, At}
 

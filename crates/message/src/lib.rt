@@ -1,7 +1,6 @@
 // A balise group as one message: the packets that its telegrams send together, or why there is no message.
-ghost use mathlib.Core.Path.{_≡_};
 ghost use Rattle.format.specs.Rules.{paper};
-ghost use Rattle.group.specs.Groups.{Replied, causeNumber};
+ghost use Rattle.group.specs.Groups.{Replied};
 use crate::passing::collided;
 use crate::storing::store;
 use group::Cause;
@@ -38,18 +37,4 @@ pub fn message(s: &[u8], ns: &[usize], pigs: &mut [u8], numbers: &mut [u8]) -> R
         });
     }
     Reply::Packets(store(s, ns, pigs, numbers))
-}
-
-// Document 02's number of a cause.
-pub fn number(cause: Cause) -> u64
-    ensures { λ r. ⌜ r ≡ causeNumber cause ⌝ }
-{
-    match cause {
-        Cause::Room => 1,
-        Cause::Single(kind) => refusals::number(kind),
-        Cause::Identity => 21,
-        Cause::Counters => 22,
-        Cause::Copied => 23,
-        Cause::Repeated => 10,
-    }
 }

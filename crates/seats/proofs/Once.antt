@@ -3,9 +3,7 @@ use mathlib.Core.Path.{refl, sym, _∙_}
 use Rattle.bits.proofs.Once.{OneOutcome}
 use Rattle.seats.proofs.balise_at
 use Rattle.seats.proofs.behind
-use Rattle.seats.proofs.pig
 use Rattle.seats.proofs.tally
-use Rattle.seats.proofs.seek
 use Rattle.seats.proofs.dup
 use Rattle.seats.proofs.counter
 use Rattle.seats.proofs.same_packets
@@ -13,14 +11,8 @@ use Rattle.seats.proofs.same_packets
 pub behind-once : OneOutcome behind.ended behind.Reads.Post
 behind-once κs args r t u v p q = (p ∙ sym q, refl)
 
-pub pig-once : OneOutcome pig.ended pig.Reads.Post
-pig-once κs args r t u v p q = (p ∙ sym q, refl)
-
 pub tally-once : OneOutcome tally.ended tally.Reads.Post
 tally-once κs args r t u v p q = (p ∙ sym q, refl)
-
-pub seek-once : OneOutcome seek.ended seek.Reads.Post
-seek-once κs args r t u v p q = (p ∙ sym q, refl)
 
 pub dup-once : OneOutcome dup.ended dup.Reads.Post
 dup-once κs args r t u v p q = (p ∙ sym q, refl)

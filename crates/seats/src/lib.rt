@@ -12,6 +12,13 @@ use bits::bytes_for;
 use headers::front;
 use headers::same_body;
 
+// What one stands for that is the lowest bit of a field, in the first 32 bits of a telegram: N_PIG ends at bit 12, M_DUP at bit 17 and M_MCOUNT at bit 25.
+const BELOW_N_PIG: u64 = 1048576;
+
+const BELOW_M_DUP: u64 = 32768;
+
+const BELOW_M_MCOUNT: u64 = 128;
+
 // Where a telegram stands: its first byte, and how many bits it has.
 pub struct Seat {
     pub start: usize,
@@ -40,10 +47,10 @@ pub fn behind(all: usize, start: usize, n: usize) -> usize
 }
 
 // The N_PIG of the telegram at the byte start.
-pub fn pig(s: &[u8], start: usize) -> u64
+fn pig(s: &[u8], start: usize) -> u64
     ensures { λ r. ⌜ r ≡ pigOf (drop start (now (s .entry))) ⌝ }
 {
-    front(s, start) / 1048576 % 8
+    front(s, start) / BELOW_N_PIG % 8
 }
 
 // How many telegrams have this N_PIG.
@@ -68,7 +75,7 @@ fn one(b: bool) -> usize
 }
 
 // Where the first telegram with this N_PIG stands; no bits at byte 0 if there is none.
-pub fn seek(s: &[u8], ns: &[usize], k: u64) -> Seat
+fn seek(s: &[u8], ns: &[usize], k: u64) -> Seat
     ensures { λ r. ⌜ r ≡ seatOf (now (s .entry)) (now (ns .entry)) k ⌝ }
 {
     let mut i = 0;
@@ -96,7 +103,7 @@ pub fn dup(s: &[u8], ns: &[usize], k: u64) -> u64
 fn named(s: &[u8], start: usize) -> u64
     ensures { λ r. ⌜ r ≡ numberAt (drop start (now (s .entry))) 58 15 2 ⌝ }
 {
-    front(s, start) / 32768 % 4
+    front(s, start) / BELOW_M_DUP % 4
 }
 
 // The M_MCOUNT of the first telegram with this N_PIG.
@@ -104,7 +111,7 @@ pub fn counter(s: &[u8], ns: &[usize], k: u64) -> u64
     ensures { λ r. ⌜ r ≡ counterOf (now (s .entry)) (seatOf (now (s .entry)) (now (ns .entry)) k) ⌝ }
 {
     let t = seek(s, ns, k);
-    front(s, t.start) / 128 % 256
+    front(s, t.start) / BELOW_M_MCOUNT % 256
 }
 
 // Whether the first telegrams with these two N_PIG are the same behind their headers.

@@ -2,15 +2,11 @@
 use mathlib.Core.Path.{refl, sym, _∙_}
 use Rattle.bits.proofs.Once.{OneOutcome}
 use Rattle.sightings.proofs.head
-use Rattle.sightings.proofs.shared
 use Rattle.sightings.proofs.joined
 use Rattle.sightings.proofs.repeats
 
 pub head-once : OneOutcome head.ended head.Reads.Post
 head-once κs args r t u v p q = (p ∙ sym q, refl)
-
-pub shared-once : OneOutcome shared.ended shared.Reads.Post
-shared-once κs args r t u v p q = (p ∙ sym q, refl)
 
 pub joined-once : OneOutcome joined.ended joined.Reads.Post
 joined-once κs args r t u v p q = (p ∙ sym q, refl)

@@ -41,10 +41,10 @@ fn reach(long: u64) -> usize
 }
 
 // The ways that packets of one kind go, in one number: 0 none, 1 that of Q_DIR 0, 2 that of Q_DIR 1, 3 both.
-pub const BOTH: u8 = 3;
+const BOTH: u8 = 3;
 
 // Whether a packet with this Q_DIR goes one of these ways.
-pub fn shared(ways: u8, dir: u64) -> bool
+fn shared(ways: u8, dir: u64) -> bool
     ensures { λ r. ⌜ r ≡ sharedBy ways dir ⌝ }
 {
     if ways == 0 {

@@ -17,7 +17,7 @@ mod counters;
 mod identity;
 
 // The packets for which there must be room.
-pub const PACKETS: usize = 264;
+const PACKETS: usize = 264;
 
 // The first fault of a group that is lent room for so many packets, but for packets that collide.
 pub fn judge(s: &[u8], ns: &[usize], room: usize) -> Verdict

@@ -2,7 +2,7 @@
 use mathlib.Core.Path.{sym, _∙_}
 use Prim.Native.Nat.{_-_}
 use lib.ListN.{length}
-use Rattle.group.proofs.Walking.{Coming, coming-first, coming-on, coming-stops, coming-all, part-most}
+use Rattle.group_laws.proofs.Walking.{Coming, coming-first, coming-on, coming-stops, coming-all, part-most}
 use borrow.Author.Needs.{needs}
 use native.Mathlib.Omega.{arith}
 use Rattle.arrivals.proofs.arrive.Statement.{statement}

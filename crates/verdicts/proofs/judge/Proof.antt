@@ -1,8 +1,8 @@
 -- `verdicts::judge` meets its contract. Assumes nothing.
 use denote.Ref.{now}
 use mathlib.Core.Path.{sym, _∙_}
-use Rattle.group.proofs.Walking.{came-arrives}
-use Rattle.group.proofs.Judging.{verdict-room, verdict-single, verdict-arrived}
+use Rattle.group_laws.proofs.Walking.{came-arrives}
+use Rattle.group_laws.proofs.Judging.{verdict-room, verdict-single, verdict-arrived}
 use borrow.Author.Needs.{needs}
 use Rattle.verdicts.proofs.judge.Statement.{statement}
 use Rattle.verdicts.proofs.judge.Tie as tie

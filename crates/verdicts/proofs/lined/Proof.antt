@@ -2,7 +2,7 @@
 use denote.Ref.{now}
 use mathlib.Core.Path.{sym, _∙_}
 use borrow.Author.Tests.{not-true, not-false}
-use Rattle.group.proofs.Judging.{line-up, verdict-identity, verdict-counters, verdict-copied, verdict-fine}
+use Rattle.group_laws.proofs.Judging.{line-up, verdict-identity, verdict-counters, verdict-copied, verdict-fine}
 use borrow.Author.Needs.{needs}
 use Rattle.verdicts.proofs.lined.Statement.{statement}
 use Rattle.verdicts.proofs.lined.Tie as tie

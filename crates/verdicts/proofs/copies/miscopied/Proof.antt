@@ -3,7 +3,7 @@ use mathlib.Core.Path.{sym, _∙_}
 use Prim.Native.Nat.{_-_}
 use lib.ListN.{length}
 use borrow.Author.Tests.{not-true, not-false}
-use Rattle.group.proofs.Copying.{Naming, naming-first, naming-on, naming-wrong, naming-end}
+use Rattle.group_laws.proofs.Copying.{Naming, naming-first, naming-on, naming-wrong, naming-end}
 use borrow.Author.Needs.{needs}
 use Rattle.verdicts.proofs.copies.miscopied.Statement.{statement}
 use Rattle.verdicts.proofs.copies.miscopied.Tie as tie

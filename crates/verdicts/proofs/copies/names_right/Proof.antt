@@ -1,7 +1,7 @@
 -- `verdicts::copies::names_right` meets its contract. Assumes nothing.
 use mathlib.Core.Path.{_∙_}
 use borrow.Author.Tests.{eq-eqb, ne-eqb}
-use Rattle.group.proofs.Lining.{line-dup}
+use Rattle.group_laws.proofs.Lining.{line-dup}
 use borrow.Author.Needs.{needs}
 use Rattle.verdicts.proofs.copies.names_right.Statement.{statement}
 use Rattle.verdicts.proofs.copies.names_right.Tie as tie

@@ -3,7 +3,7 @@ use mathlib.Core.Path.{sym, _∙_}
 use Prim.Native.Nat.{_-_}
 use lib.ListN.{length}
 use borrow.Author.Tests.{not-true, not-false}
-use Rattle.group.proofs.Lining.{line-counter, Counting, counting-first, counting-never, counting-apart, counting-on, counting-end}
+use Rattle.group_laws.proofs.Lining.{line-counter, Counting, counting-first, counting-never, counting-apart, counting-on, counting-end}
 use borrow.Author.Needs.{needs}
 use Rattle.verdicts.proofs.counters.counted.Statement.{statement}
 use Rattle.verdicts.proofs.counters.counted.Tie as tie

@@ -3,7 +3,7 @@ use mathlib.Core.Path.{sym, _∙_}
 use Prim.Native.Nat.{_-_}
 use lib.ListN.{length}
 use borrow.Author.Tests.{not-true, not-false}
-use Rattle.group.proofs.Belonging.{Comparing, comparing-first, comparing-on, comparing-fails, comparing-end}
+use Rattle.group_laws.proofs.Belonging.{Comparing, comparing-first, comparing-on, comparing-fails, comparing-end}
 use borrow.Author.Needs.{needs}
 use Rattle.verdicts.proofs.identity.alike.Statement.{statement}
 use Rattle.verdicts.proofs.identity.alike.Tie as tie

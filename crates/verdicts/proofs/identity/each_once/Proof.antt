@@ -5,8 +5,8 @@ use Prim.Native.Nat.{_≤_}
 use lib.ListN.{length}
 use Rattle.group.specs.Groups.{once}
 use Rattle.group.specs.Walks.{telegramsOf}
-use Rattle.group.proofs.Seeking.{tallied-is}
-use Rattle.group.proofs.Lining.{once-on, once-fails}
+use Rattle.group_laws.proofs.Seeking.{tallied-is}
+use Rattle.group_laws.proofs.Lining.{once-on, once-fails}
 use borrow.Author.Needs.{needs}
 use native.Mathlib.Omega.{arith}
 use Rattle.verdicts.proofs.identity.each_once.Statement.{statement}

@@ -3,7 +3,7 @@ use denote.Ref.{now}
 use mathlib.Core.Path.{sym, _∙_}
 use borrow.Author.Tests.{not-true, not-false, le-leb, lt-leb}
 use lib.ListN.{length}
-use Rattle.group.proofs.Agreeing.{grouped-is}
+use Rattle.group_laws.proofs.Agreeing.{grouped-is}
 use native.Mathlib.Omega.{arith}
 use Rattle.verdicts.proofs.identity.identified.Statement.{statement}
 use Rattle.verdicts.proofs.identity.identified.Tie as tie
