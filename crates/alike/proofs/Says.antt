@@ -18,7 +18,8 @@ use Rattle.alike.specs.Pairs.Pair.{both, first, second}
 use Rattle.alike.specs.declared.Alike.{Alike}
 use Rattle.alike.specs.declared.Alike.the-variants.{Same, Other}
 use Rattle.alike.proofs.Numbers.{which, alike-is}
-use Rattle.alike.proofs.Pairs.{same-true, same-self, pair-is}
+use Rattle.bits.proofs.Same.{same-true, same-self}
+use Rattle.alike.proofs.Pairs.{pair-is}
 
 -- "A refusal .. changes no output": where a telegram is refused, whichever it is, both buffers are as they were
 module _ {p : Terms} {s : List ℕ} {n : ℕ} {t : List ℕ} {m : ℕ} {x y x-after y-after : List ℕ} {answer : Alike}

@@ -10,7 +10,7 @@ use Rattle.format.specs.Rules.{paper}
 use Rattle.pieces.specs.Numbers.{decimal}
 use Rattle.queue_text.specs.Texts.{newline, okWord}
 use Rattle.answer_text.specs.Texts.{noQuestion}
-use Rattle.group.specs.Groups.{Member, Message, causeNumber, group, packetsNeeded, replyOf, over, lineGroup, Replied}
+use Rattle.group.specs.Groups.{Member, Message, causeNumber, group, packetsNeeded, replyOf, over, groupIn, Replied}
 use Rattle.group.specs.Groups.Message.{lists, refuses}
 use Rattle.group.specs.declared.Fault.{Fault}
 use Rattle.group.specs.declared.Reply.{Reply}
@@ -49,13 +49,13 @@ enough s ns room h = rw (le-leb packetsNeeded room h)
 
 module _ {s ns pigs numbers pigs' numbers' : List ℕ} {reply : Reply} (r : Replied paper s ns pigs numbers reply pigs' numbers')
     (l : packetsNeeded ≤ length pigs) (m : packetsNeeded ≤ length numbers) where
-  is : lineGroup paper s ns pigs numbers ≡ group paper s ns packetsNeeded
+  is : groupIn paper s ns pigs numbers ≡ group paper s ns packetsNeeded
   is = enough s ns (min (length pigs) (length numbers)) (omega arith)
 
   pub packets-are : (n : ℕ) → reply ≡ Packets n → packetsText n pigs' numbers' ≡ messageText (group paper s ns packetsNeeded)
   packets-are n e =
       ap₂ (packetsText n) (r .pigsThen) (r .numbersThen)
-      ∙ packets-by pigs numbers (lineGroup paper s ns pigs numbers) n (sym (r .answers) ∙ e)
+      ∙ packets-by pigs numbers (groupIn paper s ns pigs numbers) n (sym (r .answers) ∙ e)
       ∙ ap messageText is
 
   -- its number is that of its cause
@@ -63,7 +63,7 @@ module _ {s ns pigs numbers pigs' numbers' : List ℕ} {reply : Reply} (r : Repl
       → faultText number (f .which) (f .place) ≡ messageText (group paper s ns packetsNeeded)
   fault-is f number e k =
       ap (λ (n : ℕ). faultText n (f .which) (f .place)) k
-      ∙ fault-by (lineGroup paper s ns pigs numbers) f (sym (r .answers) ∙ e)
+      ∙ fault-by (groupIn paper s ns pigs numbers) f (sym (r .answers) ∙ e)
       ∙ ap messageText is
 
 -- ---- by what the line is
