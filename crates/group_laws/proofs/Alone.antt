@@ -29,14 +29,14 @@ use Rattle.group_laws.proofs.Position.{telegram-position}
 
 -- ---- where no two packets collide, there is no collision
 
-abbrev earlierOf : Member → Earlier
+abbrev pub earlierOf : Member → Earlier
 earlierOf m = record { id = m .id; dir = m .dir }
 
 -- two packets of one kind, but ETCS-44, whose directions collide
-abbrev Collide : Member → Earlier → Type 0
+abbrev pub Collide : Member → Earlier → Type 0
 Collide m e = (m .id ≡ e .id) × ((m .id ≡ 44 → ⊥) × (clash (m .dir) (e .dir) ≡ true))
 
-met : (i d : ℕ) (es : List Earlier) → among clash i d es ≡ true → (e : Earlier) × (In e es × ((i ≡ e .id) × (clash d (e .dir) ≡ true)))
+pub met : (i d : ℕ) (es : List Earlier) → among clash i d es ≡ true → (e : Earlier) × (In e es × ((i ≡ e .id) × (clash d (e .dir) ≡ true)))
 unfolding among
 met i d [] h = let z : _≡_ {A = ℕ} 0 1 = cc in absurd (omega arith)
 met i d (e ∷ es) h = by-tests (eqb i (e .id)) (clash d (e .dir)) refl refl h (λ g. met i d es g)
@@ -53,7 +53,7 @@ met i d (e ∷ es) h = by-tests (eqb i (e .id)) (clash d (e .dir)) refl refl h (
     by-tests true false p q g on = later (on g)
     by-tests false b p q g on = later (on g)
 
-no-collision : (seen : List Earlier) (ms : List Member) → ((m : Member) → In m ms → (e : Earlier) → In e seen → Collide m e → ⊥)
+pub no-collision : (seen : List Earlier) (ms : List Member) → ((m : Member) → In m ms → (e : Earlier) → In e seen → Collide m e → ⊥)
     → ((x : List Member) (o : Member) (y : List Member) (m : Member) (z : List Member) → ms ≡ x ++ o ∷ (y ++ m ∷ z) → Collide m (earlierOf o) → ⊥) → collision seen ms ≡ none
 unfolding collision
 no-collision seen [] a b = refl

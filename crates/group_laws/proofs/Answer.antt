@@ -46,11 +46,11 @@ pub record Answered (ts : Telegrams) (ms : List Member) : Type 0 where
 
 -- ---- the one before
 
-data Last (u : Option (List Entry)) (xs : Telegrams) : Type 0 where
+pub data Last (u : Option (List Entry)) (xs : Telegrams) : Type 0 where
   nobody : xs ≡ [] → previousOf u xs ≡ u → Last u xs
   someone : (ys : Telegrams) (w : List Entry) → xs ≡ ys ++ (w ∷ []) → previousOf u xs ≡ some w → Last u xs
 
-last-of : (u : Option (List Entry)) (xs : Telegrams) → Last u xs
+pub last-of : (u : Option (List Entry)) (xs : Telegrams) → Last u xs
 last-of u [] = nobody refl refl
 last-of u (x ∷ xs) = by-rest (last-of (some x) xs)
   where

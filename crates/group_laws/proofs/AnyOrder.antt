@@ -15,7 +15,7 @@ use Rattle.group_laws.proofs.Arrival.{order-of-arrival}
 use Rattle.group_laws.proofs.Joined.{buffer, sizes, Exact, parts-joined}
 
 -- a count is given of a list alone
-reply-lists : (m : Message) (c : ℕ) → replyOf m ≡ Packets c → (ms : List Member) × (m ≡ lists ms)
+pub reply-lists : (m : Message) (c : ℕ) → replyOf m ≡ Packets c → (ms : List Member) × (m ≡ lists ms)
 reply-lists (lists ms) c e = (ms, refl)
 reply-lists (refuses f) c e = let z : _≡_ {A = ℕ} 0 1 = cc in absurd (omega arith)
 

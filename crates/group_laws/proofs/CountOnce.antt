@@ -29,11 +29,11 @@ named-previous t u after h e = by-one (eqb (held M-DUP t) 1) refl h
     by-one false i g = same-true (body u) (body t) (rw e at g)
 
 -- the balise before, if its M_DUP names this one, has its packets
-abbrev Looks : Option (List Entry) → List Entry → Type 0
+abbrev pub Looks : Option (List Entry) → List Entry → Type 0
 Looks none t = Unit
 Looks (some u) t = eqb (held M-DUP u) 1 ≡ true → body t ≡ body u
 
-linked-same : (u t : List Entry) (after : Option (List Entry)) → Looks (some u) t → namesRight (some u) t after ≡ true → linked (some u) t ≡ true → body u ≡ body t
+pub linked-same : (u t : List Entry) (after : Option (List Entry)) → Looks (some u) t → namesRight (some u) t after ≡ true → linked (some u) t ≡ true → body u ≡ body t
 linked-same u t after l h k = by-test (eqb (held M-DUP u) 1) refl
   where
     by-test : (b : Bool) → eqb (held M-DUP u) 1 ≡ b → body u ≡ body t
@@ -64,7 +64,7 @@ copied : {bs : List Balise} {k : ℕ} {w t : List Entry} → Counts bs k w → b
 copied (counts x b y e l s) h = counts x b y e l (s ∙ h)
 
 module _ where
-  not-wrong : (k : ℕ) (u : Option (List Entry)) (t : List Entry) (ts : Telegrams) → miscopied k u (t ∷ ts) ≡ none
+  pub not-wrong : (k : ℕ) (u : Option (List Entry)) (t : List Entry) (ts : Telegrams) → miscopied k u (t ∷ ts) ≡ none
       → (namesRight u t (first ts) ≡ true) × (miscopied (suc k) (some t) ts ≡ none)
   unfolding miscopied
   not-wrong k u t ts h = by-test (namesRight u t (first ts)) refl h
@@ -74,7 +74,7 @@ module _ where
       by-test true e g = (e, g)
       by-test false e g = let z : _≡_ {A = ℕ} 0 1 = cc in absurd (omega arith)
 
-looks-on : (u : Option (List Entry)) (t : List Entry) (ts : Telegrams) → namesRight u t (first ts) ≡ true → (v : List Entry) (vs : Telegrams) → ts ≡ v ∷ vs → Looks (some t) v
+pub looks-on : (u : Option (List Entry)) (t : List Entry) (ts : Telegrams) → namesRight u t (first ts) ≡ true → (v : List Entry) (vs : Telegrams) → ts ≡ v ∷ vs → Looks (some t) v
 looks-on u t ts h v vs e d = named-next u t v (rw e at h) d
 
 abbrev balise : ℕ → List Entry → Balise

@@ -20,14 +20,14 @@ use Rattle.group_laws.proofs.Counted.{in-first, in-later, in-left, in-r
 use Rattle.group_laws.proofs.Position.{telegram-position}
 
 -- what holds of each holds of one of them
-in-cases : {A : Type 0} (P : A → Type 0) (a b : A) (l : List A) → P b → (In a l → P a) → In a (b ∷ l) → P a
+pub in-cases : {A : Type 0} (P : A → Type 0) (a b : A) (l : List A) → P b → (In a l → P a) → In a (b ∷ l) → P a
 in-cases P a b l h k i = by-place (i .before) (i .after) (i .is)
   where
     by-place : (x y : List _) → b ∷ l ≡ x ++ a ∷ y → P a
     by-place [] y e = let j : b ≡ a = cc in subst P j h
     by-place (c ∷ x) y e = k (record { before = x; after = y; is = cc })
 
-every-at : (test : List Entry → Bool) (ts : Telegrams) (t : List Entry) → every test ts ≡ true → In t ts → test t ≡ true
+pub every-at : (test : List Entry → Bool) (ts : Telegrams) (t : List Entry) → every test ts ≡ true → In t ts → test t ≡ true
 every-at test [] t h i = no-in t i
 every-at test (u ∷ ts) t h i = by-test (test u) refl h (λ k j. every-at test ts t k j)
   where

@@ -27,3 +27,11 @@ pub mod Position
 pub mod Alone
 pub mod InLine
 pub mod Answer
+pub mod NoneLost
+pub mod SameBits
+pub mod Meeting
+pub mod Repeats
+pub mod Sole
+pub mod Left
+pub mod OneCounter
+pub mod Misnamed

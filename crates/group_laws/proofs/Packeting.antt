@@ -127,7 +127,7 @@ abbrev pub numbered : ℕ → ℕ → List Glimpse → List Member
 numbered k j [] = []
 numbered k j (g ∷ gs) = record { pig = k; number = j; id = g .id; dir = g .dir; at = g .at } ∷ numbered k (suc j) gs
 
-from-head : (p : List Entry) (h : IsHeaded p) (k j at : ℕ) (rest : List (List Entry))
+pub from-head : (p : List Entry) (h : IsHeaded p) (k j at : ℕ) (rest : List (List Entry))
     → packetsFrom k j at (p ∷ rest) ≡ record { pig = k; number = j; id = h .id; dir = h .dir; at = at + 8 } ∷ packetsFrom k (suc j) (at + bitCount p) rest
 unfolding packetsFrom
 from-head p h k j at rest = rw (h .is)

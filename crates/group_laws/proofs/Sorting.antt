@@ -29,7 +29,7 @@ abbrev pub Sorted : List Member → Type 0
 Sorted [] = Unit
 Sorted (m ∷ ms) = BeforeAll m ms × Sorted ms
 
-before-at : (m : Member) (ms : List Member) → BeforeAll m ms → (y : List Member) (o : Member) (z : List Member) → ms ≡ y ++ o ∷ z → Before m o
+pub before-at : (m : Member) (ms : List Member) → BeforeAll m ms → (y : List Member) (o : Member) (z : List Member) → ms ≡ y ++ o ∷ z → Before m o
 before-at m [] h [] o z e = let q : _≡_ {A = ℕ} 0 1 = cc in absurd (omega arith)
 before-at m [] h (v ∷ y) o z e = let q : _≡_ {A = ℕ} 0 1 = cc in absurd (omega arith)
 before-at m (w ∷ ms) h [] o z e = let i : w ≡ o = cc in subst (Before m) i (h .0)

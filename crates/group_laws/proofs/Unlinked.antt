@@ -18,7 +18,7 @@ abbrev Telegrams : Type 0
 Telegrams = List (List Entry)
 
 -- the one before is the last of those before
-previous-is : (u : Option (List Entry)) (ts xs : Telegrams) (t : List Entry) (ys zs : Telegrams) (w : List Entry) (vs : Telegrams) → ts ≡ xs ++ t ∷ ys → ts ≡ zs ++ w ∷ vs
+pub previous-is : (u : Option (List Entry)) (ts xs : Telegrams) (t : List Entry) (ys zs : Telegrams) (w : List Entry) (vs : Telegrams) → ts ≡ xs ++ t ∷ ys → ts ≡ zs ++ w ∷ vs
     → length zs ≡ suc (length xs) → previousOf u zs ≡ some t
 previous-is u ts [] t ys [] w vs e f n = absurd (omega arith)
 previous-is u ts [] t ys (z ∷ []) w vs e f n = let i : z ≡ t = cc in ap some i

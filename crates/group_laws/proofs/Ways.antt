@@ -15,12 +15,12 @@ earlierOf m = record { id = m .id; dir = m .dir }
 
 -- ---- a packet that stands among those before
 
-among-here : (i d : ℕ) (e : Earlier) (a b : List Earlier) → i ≡ e .id → clash d (e .dir) ≡ true → among clash i d (a ++ e ∷ b) ≡ true
+pub among-here : (i d : ℕ) (e : Earlier) (a b : List Earlier) → i ≡ e .id → clash d (e .dir) ≡ true → among clash i d (a ++ e ∷ b) ≡ true
 unfolding among
 among-here i d e [] b h k = rw (eq-eqb i (e .id) h, k)
 among-here i d e (x ∷ a) b h k = rw (among-here i d e a b h k) (or-true (eqb i (x .id) && clash d (x .dir)))
 
-goes-on : (w : Member) (ms : List Member) (seen : List Earlier) → collision seen (w ∷ ms) ≡ none → collision (earlierOf w ∷ seen) ms ≡ none
+pub goes-on : (w : Member) (ms : List Member) (seen : List Earlier) → collision seen (w ∷ ms) ≡ none → collision (earlierOf w ∷ seen) ms ≡ none
 unfolding collision
 goes-on w ms seen h = by-test (collidesAmong clash (w .id) (w .dir) seen) h
   where
