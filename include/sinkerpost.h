@@ -34,7 +34,7 @@ uint64_t sinkerpost_group(const uint8_t *bytes, size_t length, const size_t *siz
 enum { SINKERPOST_PACKETS = 264 };
 
 /* Of what sinkerpost_group answers: 0 for a message, or the number of the refusal; the arrival number of the telegram that is refused by itself, or
- * the N_PIG for 23 and for 10 over the group; and the place. */
+ * the N_PIG for 23 and for 10 over the group; and the place. A 10 can be either: a telegram that holds both packets is refused by itself. */
 #define SINKERPOST_GROUP_NUMBER(answer) ((answer) >> 59)
 #define SINKERPOST_GROUP_WHICH(answer) ((answer) >> 10 & 0x1ffffffffffff)
 #define SINKERPOST_GROUP_PLACE(answer) ((answer) % 1024)
