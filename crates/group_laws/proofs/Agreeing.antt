@@ -37,7 +37,7 @@ telegrams-count {s} {ns} a = arrived-count 0 (parts s ns) (telegramsOf s ns) (a 
 
 -- ---- agreeing is agreeing with the first
 
-four : (a b c d : Bool) → (a && b && c && d) ≡ true → (a ≡ true) × ((b ≡ true) × ((c ≡ true) × (d ≡ true)))
+pub four : (a b c d : Bool) → (a && b && c && d) ≡ true → (a ≡ true) × ((b ≡ true) × ((c ≡ true) × (d ≡ true)))
 four true true true true h = (refl, (refl, (refl, refl)))
 four true true true false h = let z : _≡_ {A = ℕ} 0 1 = cc in absurd (omega arith)
 four true true false d h = let z : _≡_ {A = ℕ} 0 1 = cc in absurd (omega arith)

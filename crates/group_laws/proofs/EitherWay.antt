@@ -1,12 +1,10 @@
 -- "and rule 3) then holds over the group": of an accepted group a train running either way gets at most one packet of each kind but ETCS-44. Assumes nothing.
-use mathlib.Core.Bool.{Bool, true, false, _||_, or-true}
+use mathlib.Core.Bool.{true}
 use mathlib.Core.List.{List, [], _∷_, _++_}
 use mathlib.Core.Option.{none}
 use mathlib.Core.Path.{_≡_, refl, sym, ap, ap₂, _∙_}
 use Prim.Native.Nat.{ℕ}
-use borrow.Author.Tests.{eqb-true, eq-eqb}
-use lib.Dec.{eqb}
-use Rattle.format.specs.Rules.{Terms, clash}
+use Rattle.format.specs.Rules.{Terms}
 use Rattle.format.specs.Telegrams.{Entry}
 use Rattle.laws.proofs.Pairs.{serves}
 use Rattle.group.specs.Groups.{Member, collision, message, group}

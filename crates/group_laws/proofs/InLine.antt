@@ -52,7 +52,7 @@ only-standing k (u ∷ ts) t i = by-test (eqb (held N-PIG u) k) refl i (λ j. on
         (λ l. let r = on l in (in-later u (r .0), r .1)) j
     by-test false e j on = let r = on j in (in-later u (r .0), r .1)
 
-every-standing : (k : ℕ) (ts : Telegrams) (t : List Entry) → In t ts → held N-PIG t ≡ k → In t (standing k ts)
+pub every-standing : (k : ℕ) (ts : Telegrams) (t : List Entry) → In t ts → held N-PIG t ≡ k → In t (standing k ts)
 every-standing k [] t i n = no-in t i
 every-standing k (u ∷ ts) t i n = by-test (eqb (held N-PIG u) k) refl (λ j. every-standing k ts t j n)
   where

@@ -35,3 +35,5 @@ pub mod Sole
 pub mod Left
 pub mod OneCounter
 pub mod Misnamed
+pub mod OneGroup
+pub mod Refusing

@@ -125,7 +125,7 @@ other-body u t n = by-test (same (body u) (body t)) refl
     by-test true e = absurd (n (same-true (body u) (body t) e))
     by-test false e = refl
 
-two-tests : (b : Bool) → b ≡ true → b ≡ false → ⊥
+pub two-tests : (b : Bool) → b ≡ true → b ≡ false → ⊥
 two-tests b h k = let e : true ≡ false = sym h ∙ k in let z : _≡_ {A = ℕ} 0 1 = cc in omega arith
 
 same-body : (u t : List Entry) → body u ≡ body t → same (body u) (body t) ≡ false → ⊥

@@ -23,7 +23,7 @@ pub record OneCounter (ts : Telegrams) : Type 0 where
   pub not-254 : counter ≡ 254 → ⊥
   pub each : (t : List Entry) → In t ts → (held M-MCOUNT t ≡ counter) ⊎ (held M-MCOUNT t ≡ 255)
 
-and-two : (a b : Bool) → (a && b) ≡ true → (a ≡ true) × (b ≡ true)
+pub and-two : (a b : Bool) → (a && b) ≡ true → (a ≡ true) × (b ≡ true)
 and-two true true h = (refl, refl)
 and-two true false h = let z : _≡_ {A = ℕ} 0 1 = cc in absurd (omega arith)
 and-two false b h = let z : _≡_ {A = ℕ} 0 1 = cc in absurd (omega arith)
@@ -73,7 +73,7 @@ one-of (t ∷ l) h g = by-test (eqb (held M-MCOUNT t) 255) refl (one-of l (a .1)
 
 -- ---- to the test
 
-every-all : (test : List Entry → Bool) (l : Telegrams) → ((t : List Entry) → In t l → test t ≡ true) → every test l ≡ true
+pub every-all : (test : List Entry → Bool) (l : Telegrams) → ((t : List Entry) → In t l → test t ≡ true) → every test l ≡ true
 every-all test [] h = refl
 every-all test (t ∷ l) h = rw (h t (in-first t l), every-all test l (λ u i. h u (in-later t i)))
 

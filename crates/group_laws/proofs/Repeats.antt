@@ -44,7 +44,7 @@ module _ {p : Terms} {s ns : List ℕ} {room : ℕ} {ts : Telegrams} (t : Tested
       let h = arrived-telegrams p 0 (parts s ns) ts (t .arrives) in
       record { every = line-every p ts h (t .whole); only = line-only p ts h (t .whole); sorted = listed-sorted 0 none (lineFrom ts) }
 
-  tested-small : Small (packetsIn ts)
+  pub tested-small : Small (packetsIn ts)
   tested-small m i =
       let d = tested-answered .only m i in
       let l = telegram-small (telegram-in p ts (d .telegram) (arrived-telegrams p 0 (parts s ns) ts (t .arrives)) (d .came)) (d .packet) in

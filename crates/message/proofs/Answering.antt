@@ -1,8 +1,8 @@
 -- What the tests, the look and the runs come to is the group's message. Assumes nothing.
-use mathlib.Core.List.{List, [], _∷_, _++_, map}
+use mathlib.Core.List.{List, [], _++_, map}
 use mathlib.Core.Option.{Option, some, none}
 use mathlib.Core.Path.{_≡_, refl, sym, ap, _∙_}
-use Prim.Native.Nat.{ℕ, suc, _+_, _≤_, min}
+use Prim.Native.Nat.{ℕ, _+_, _≤_, min}
 use native.Mathlib.Omega.{arith}
 use lib.ListN.{length, drop}
 use lib.Seq.{sets, sets-eq}
@@ -17,7 +17,8 @@ use Rattle.group.specs.Groups.Message.{lists, refuses}
 use Rattle.group.specs.Walks.{Lineup, groupVerdict, packetsOfAll, lastTest, judgedBy}
 use Rattle.group_laws.proofs.Judging.{group-judged, Ready, fine-ready}
 use Rattle.group_laws.proofs.Enough.{lineup-most}
-use Rattle.message.specs.Passing.{Stores, clashOf}
+use Rattle.message.specs.Passing.{Stores, clashOr}
+use Rattle.message.proofs.Placing.{map-length}
 use Rattle.message.specs.declared.Clash.the-variants.{Free, At}
 
 module _ (s ns pigs numbers : List ℕ) (room : ℕ) (r : room ≡ min (length pigs) (length numbers)) where
@@ -45,10 +46,10 @@ module _ (s ns pigs numbers : List ℕ) (room : ℕ) (r : room ≡ min (length p
     pub runs-long : (264 ≤ length pigs) × (264 ≤ length numbers)
     runs-long = let h = ready .roomy in (omega (arith, r), omega (arith, r))
 
-    pub replied-clash : (w a : ℕ) → At w a ≡ clashOf (collision [] (packetsOfAll s ns)) → Replied paper s ns pigs numbers (Refused (fault Repeated w a)) pigs numbers
+    pub replied-clash : (w a : ℕ) → At w a ≡ clashOr 0 (collision [] (packetsOfAll s ns)) → Replied paper s ns pigs numbers (Refused (fault Repeated w a)) pigs numbers
     replied-clash w a c = refused (fault Repeated w a) (judged Fine e ∙ by-way (collision [] (packetsOfAll s ns)) c)
       where
-        by-way : (o : Option Member) → At w a ≡ clashOf o → uncollided (packetsOfAll s ns) o ≡ refuses (fault Repeated w a)
+        by-way : (o : Option Member) → At w a ≡ clashOr 0 o → uncollided (packetsOfAll s ns) o ≡ refuses (fault Repeated w a)
         by-way none q = let z : _≡_ {A = ℕ} 0 1 = cc in absurd (omega arith)
         by-way (some m) q = let x : m .pig ≡ w = cc in let y : m .at ≡ a = cc in rw (x, y)
 
@@ -58,14 +59,10 @@ module _ (s ns pigs numbers : List ℕ) (room : ℕ) (r : room ≡ min (length p
         let c = map-length part (packetsOfAll s ns) in
         let z : 0 + length (map part (packetsOfAll s ns)) ≡ length (packetsOfAll s ns) = omega arith in
         sets-eq (map part (packetsOfAll s ns)) l 0 (omega arith) ∙ ap (λ (x : ℕ). map part (packetsOfAll s ns) ++ drop x l) z
-      where
-        map-length : (f : Member → ℕ) (ms : List Member) → length (map f ms) ≡ length ms
-        map-length f [] = refl
-        map-length f (m ∷ ms) = ap suc (map-length f ms)
 
-    pub replied-lists : Free ≡ clashOf (collision [] (packetsOfAll s ns)) → (n : ℕ) (p q : List ℕ) → Stores (packetsOfAll s ns) pigs numbers n p q
+    pub replied-lists : (c : ℕ) → Free c ≡ clashOr 0 (collision [] (packetsOfAll s ns)) → (n : ℕ) (p q : List ℕ) → Stores (packetsOfAll s ns) pigs numbers n p q
         → Replied paper s ns pigs numbers (Packets n) p q
-    replied-lists c n p q t =
+    replied-lists d c n p q t =
         let i : groupIn paper s ns pigs numbers ≡ lists (packetsOfAll s ns) = judged Fine e ∙ by-way (collision [] (packetsOfAll s ns)) c in
         let h = runs-long in
         record {
@@ -74,6 +71,6 @@ module _ (s ns pigs numbers : List ℕ) (room : ℕ) (r : room ≡ min (length p
           numbersThen = t .numbersThen ∙ stored (λ m. m .number) numbers (h .1) ∙ sym (ap (λ (m : Message). over (λ (x : Member). x .number) m numbers) i);
         }
       where
-        by-way : (o : Option Member) → Free ≡ clashOf o → uncollided (packetsOfAll s ns) o ≡ lists (packetsOfAll s ns)
+        by-way : (o : Option Member) → Free d ≡ clashOr 0 o → uncollided (packetsOfAll s ns) o ≡ lists (packetsOfAll s ns)
         by-way none w = refl
         by-way (some m) w = let z : _≡_ {A = ℕ} 0 1 = cc in absurd (omega arith)

@@ -18,16 +18,17 @@ use Rattle.group.specs.Groups.{Member, held, linked, counting, listed, packetsO
 use Rattle.group.specs.Walks.{Lineup, Seated, telegramsOf, seated, preceding, packetsOfAll}
 use Rattle.group_laws.proofs.Held.{front-size}
 use Rattle.group_laws.proofs.Lining.{line-turn, line-end, line-first, line-seat, line-dup, seat-is}
+use Rattle.group_laws.proofs.Enough.{front-most}
 use Rattle.group_laws.proofs.Packeting.{AllSmall, numbered, seen-packets, seen-small}
-use Rattle.message.specs.Passing.{counted}
+use Rattle.message.specs.Passing.{counted, dupBefore, sightsOf}
 
 -- the packets that are listed from the balise with this N_PIG on
 abbrev pub restFrom : List ℕ → List ℕ → ℕ → List Member
 restFrom s ns k = listed (counting k (preceding k (telegramsOf s ns)) (inOrder k (length ns - k) (telegramsOf s ns)))
 
--- the M_DUP of the balise before it
-abbrev pub dupBefore : List ℕ → List ℕ → ℕ → ℕ
-dupBefore s ns k = cond (eqb k 0) 0 (held M-DUP (seated (k - 1) (telegramsOf s ns)))
+pub length-numbered : (k j : ℕ) (gs : List Glimpse) → length (numbered k j gs) ≡ length gs
+length-numbered k j [] = refl
+length-numbered k j (g ∷ gs) = ap suc (length-numbered k (suc j) gs)
 
 linked-is : (k : ℕ) (ts : List (List Entry)) (before dup : ℕ) → before ≡ cond (eqb k 0) 0 (held M-DUP (seated (k - 1) ts)) → dup ≡ held M-DUP (seated k ts)
     → linkedBy k before dup ≡ linked (preceding k ts) (seated k ts)
@@ -64,12 +65,28 @@ module _ {s ns : List ℕ} (l : Lineup s ns) where
     abbrev pub sights : List Glimpse
     sights = counted (b .counts) (glimpses (drop (b .seat .start) s) (b .seat .n))
 
+    pub sights-are : sights ≡ sightsOf s ns k
+    sights-are =
+        let q = e ∙ ap (baliseOf s (seatOf s ns k) k) d in
+        ap (λ (x : seats.Balise). counted (x .counts) (glimpses (drop (x .seat .start) s) (x .seat .n))) q
+
     pub sights-small : AllSmall sights
     sights-small = by-counts (b .counts)
       where
         by-counts : (c : Bool) → AllSmall (counted c (glimpses (drop (b .seat .start) s) (b .seat .n)))
         by-counts true = seen-small (seat .front)
         by-counts false = tt
+
+    pub sights-few : length sights ≤ 33
+    sights-few = by-counts (b .counts)
+      where
+        by-counts : (c : Bool) → length (counted c (glimpses (drop (b .seat .start) s) (b .seat .n))) ≤ 33
+        by-counts true =
+            let m = front-most (seat .front) k in
+            let n = length-numbered k 0 (glimpses (drop (b .seat .start) s) (b .seat .n)) in
+            let p = ap length (seen-packets (seat .front) k) in
+            omega arith
+        by-counts false = omega arith
 
     seen-here : numbered k 0 (glimpses (drop (b .seat .start) s) (b .seat .n)) ≡ packetsOf (record { pig = k; telegram = seated k ts })
     seen-here = seen-packets (seat .front) k ∙ ap (λ (t : List Entry). packetsOf (record { pig = k; telegram = t })) (seat-is seat)
@@ -102,3 +119,11 @@ module _ {s ns : List ℕ} (l : Lineup s ns) where
             ≡ numbered k 0 (counted c (glimpses (drop (b .seat .start) s) (b .seat .n))) ++ others
         by-link true c i = rw i
         by-link false c i = rw i (ap (λ (x : List Member). x ++ others) (sym seen-here))
+
+-- the same of each balise by itself
+module _ {s ns : List ℕ} (l : Lineup s ns) (k : ℕ) (h : k < length ns) where
+  pub rest-here : restFrom s ns k ≡ numbered k 0 (sightsOf s ns k) ++ restFrom s ns (k + 1)
+  rest-here = rest-turn l k h (dupBefore s ns k) refl (baliseOf s (seatOf s ns k) k (dupBefore s ns k)) refl
+
+  pub few-here : length (sightsOf s ns k) ≤ 33
+  few-here = sights-few l k h (dupBefore s ns k) refl (baliseOf s (seatOf s ns k) k (dupBefore s ns k)) refl

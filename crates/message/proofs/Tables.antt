@@ -3,7 +3,7 @@ use mathlib.Core.Bool.{Bool, true, false, cond, not, _&&_, _||_}
 use mathlib.Core.List.{List, [], _∷_}
 use mathlib.Core.Option.{none}
 use mathlib.Core.Path.{_≡_, refl, sym, ap, _∙_}
-use Prim.Native.Nat.{ℕ, zero, suc, _≤_, _<_}
+use Prim.Native.Nat.{ℕ, zero, suc, _+_, _≤_, _<_}
 use native.Mathlib.Omega.{arith}
 use borrow.Author.Tests.{eqb-true, eqb-false}
 use lib.Dec.{eqb}
@@ -13,7 +13,7 @@ use Rattle.format.specs.Rules.{Earlier, clash, among, collidesAmong}
 use Rattle.sightings.specs.Sightings.{Glimpse, sharedBy, joinedBy}
 use Rattle.group.specs.Groups.{Member, collision}
 use Rattle.group_laws.proofs.Packeting.{AllSmall, numbered}
-use Rattle.message.specs.Passing.{hits, noted, passed, tableThen, clashOf}
+use Rattle.message.specs.Passing.{hits, noted, passed, tableThen, clashOr}
 use Rattle.message.specs.declared.Clash.the-variants.{Free, At}
 
 -- ---- ways
@@ -93,27 +93,34 @@ hits-is : {met : List Earlier} {table : List ℕ} → Tabled met table → (g : 
 hits-is t g small way = ap (λ (b : Bool). not (eqb (g .id) 44) && b) (t .same (g .id) (g .dir) small way)
 
 -- the look finds what the definition does, and leaves a table of all that were met
-pub record Passing (k j : ℕ) (gs : List Glimpse) (met : List Earlier) (table : List ℕ) : Type 0 where
-  pub finds : passed k table gs ≡ clashOf (collision met (numbered k j gs))
-  pub leaves : passed k table gs ≡ Free → (collision met (numbered k j gs) ≡ none) × Tabled (metAfter (numbered k j gs) met) (tableThen table gs)
+pub record Passing (k i j : ℕ) (gs : List Glimpse) (met : List Earlier) (table : List ℕ) : Type 0 where
+  pub finds : passed k j table gs ≡ clashOr (j + length gs) (collision met (numbered k i gs))
+  pub leaves : (n : ℕ) → passed k j table gs ≡ Free n
+      → (n ≡ j + length gs) × ((collision met (numbered k i gs) ≡ none) × Tabled (metAfter (numbered k i gs) met) (tableThen table gs))
 
-pub passing : (k j : ℕ) (gs : List Glimpse) {met : List Earlier} {table : List ℕ} → AllSmall gs → Tabled met table → Passing k j gs met table
+pub passing : (k i j : ℕ) (gs : List Glimpse) {met : List Earlier} {table : List ℕ} → AllSmall gs → Tabled met table → Passing k i j gs met table
 unfolding collision
-passing k j [] h t = record { finds = refl; leaves = λ e. (refl, t) }
-passing k j (g ∷ gs) {met} {table} h t =
-    by-test (hits table g) refl (collidesAmong clash (g .id) (g .dir) met) refl (passing k (suc j) gs (h .1) (tabled-one t g (h .0 .0) (h .0 .1)))
+passing k i j [] h t =
+    let z : j + 0 ≡ j = omega arith in
+    record { finds = ap Free (sym z); leaves = λ n e. (let y : n ≡ j = cc in y ∙ sym z, (refl, t)) }
+passing k i j (g ∷ gs) {met} {table} h t =
+    by-test (hits table g) refl (collidesAmong clash (g .id) (g .dir) met) refl (passing k (suc i) (suc j) gs (h .1) (tabled-one t g (h .0 .0) (h .0 .1)))
   where
     met' : List Earlier
     met' = record { id = g .id; dir = g .dir } ∷ met
 
-    m : Member
-    m = record { pig = k; number = j; id = g .id; dir = g .dir; at = g .at }
+    never : (n : ℕ) → At k (g .at) ≡ Free n → _≡_ {A = ℕ} 0 1
+    never n q = cc
 
-    by-test : (b : Bool) → hits table g ≡ b → (c : Bool) → collidesAmong clash (g .id) (g .dir) met ≡ c → Passing k (suc j) gs met' (noted table g) → Passing k j (g ∷ gs) met table
-    by-test true e true f p = record { finds = rw (e, f); leaves = λ q. let z : _≡_ {A = ℕ} 0 1 = never (rw e at q) in absurd (omega arith) }
-      where
-        never : At k (g .at) ≡ Free → _≡_ {A = ℕ} 0 1
-        never q = cc
-    by-test false e false f p = record { finds = rw (e, f) (p .finds); leaves = λ q. rw (e, f) (p .leaves (rw e at q)) }
+    more : suc j + length gs ≡ j + suc (length gs)
+    more = omega arith
+
+    by-test : (b : Bool) → hits table g ≡ b → (c : Bool) → collidesAmong clash (g .id) (g .dir) met ≡ c → Passing k (suc i) (suc j) gs met' (noted table g) → Passing k i j (g ∷ gs) met table
+    by-test true e true f p = record { finds = rw (e, f); leaves = λ n q. let z = never n (rw e at q) in absurd (omega arith) }
+    by-test false e false f p =
+        record {
+          finds = rw (e, f) (p .finds ∙ ap (λ (n : ℕ). clashOr n (collision met' (numbered k (suc i) gs))) more);
+          leaves = λ n q. let y = p .leaves n (rw e at q) in rw (e, f) (y .0 ∙ more, y .1);
+        }
     by-test true e false f p = let z : true ≡ false = sym e ∙ hits-is t g (h .0 .0) (h .0 .1) ∙ f in let y : _≡_ {A = ℕ} 0 1 = cc in absurd (omega arith)
     by-test false e true f p = let z : false ≡ true = sym e ∙ hits-is t g (h .0 .0) (h .0 .1) ∙ f in let y : _≡_ {A = ℕ} 0 1 = cc in absurd (omega arith)

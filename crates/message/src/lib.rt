@@ -12,9 +12,9 @@ use verdicts::judge;
 mod passing;
 mod storing;
 
-// Whether a packet of a group collides with an earlier one: none does; or the first that does, with its N_PIG and the bit of its Q_DIR.
+// Whether packets collide with earlier ones: so many do not; or the first that does, with its N_PIG and the bit of its Q_DIR.
 pub enum Clash {
-    Free,
+    Free(usize),
     At(usize, usize),
 }
 
@@ -28,7 +28,8 @@ pub fn message(s: &[u8], ns: &[usize], pigs: &mut [u8], numbers: &mut [u8]) -> R
         return Reply::Refused(f);
     }
     let mut seen = [0u8; 256];
-    if let Clash::At(which, place) = collided(s, ns, &mut seen) {
+    let mut counts = [0usize; 8];
+    if let Clash::At(which, place) = collided(s, ns, &mut seen, &mut counts) {
         let cause = Cause::Repeated;
         return Reply::Refused(Fault {
             cause,
@@ -36,5 +37,5 @@ pub fn message(s: &[u8], ns: &[usize], pigs: &mut [u8], numbers: &mut [u8]) -> R
             place,
         });
     }
-    Reply::Packets(store(s, ns, pigs, numbers))
+    Reply::Packets(store(s, ns, &counts, pigs, numbers))
 }

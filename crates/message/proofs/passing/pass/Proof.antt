@@ -13,10 +13,10 @@ use Rattle.message.proofs.passing.pass.Statement.{statement}
 use Rattle.message.proofs.passing.pass.Tie as tie
 
 abbrev Inv-loop : tie.InvT-loop
-Inv-loop s start n counts k seen₀ stop at₀ seen at = Hopping k (drop start s) stop (glimpses (drop start s) n) seen₀ seen at
+Inv-loop s start n counts k seen₀ stop at₀ count₀ seen at count = Hopping k (drop start s) stop (glimpses (drop start s) n) seen₀ seen at count
 
 abbrev μ-loop : tie.MeasureT-loop
-μ-loop s start n counts k seen₀ stop at₀ seen at = stop - at
+μ-loop s start n counts k seen₀ stop at₀ count₀ seen at count = stop - at
 
 returns : tie.Need-returns Inv-loop μ-loop
 returns c = rw (not-true (c .before .before .before .args .counts) (c .if1 .taken)) (record { answer = refl; contents = refl })
@@ -48,8 +48,8 @@ slice-read-ways c = omega (arith, head-small (drop (c .before .before .before .b
 repeats-requires : tie.Need-repeats-requires Inv-loop μ-loop
 repeats-requires c κs = search needs
 
-add-t19 : tie.Need-add-t19 Inv-loop μ-loop
-add-t19 c = omega (arith, head-small (drop (c .before .before .before .before .before .before .before .before .before .before .before .args .start) (now (c .before .before .before .before .before .before .before .before .before .before .before .args .s))) (c .before .before .before .before .before .before .before .before .before .before .before .args .n - 8) (c .before .before .before .before .before .before .before .loop .at) _ _ _ (sym (c .before .before .before .before .id .given .1) ∙ c .before .before .before .before .before .before .head .ensures) .whole, c .before .before .before .before .before .before .before .before .before .before .before .pre .1 .1)
+add-t20 : tie.Need-add-t20 Inv-loop μ-loop
+add-t20 c = omega (arith, head-small (drop (c .before .before .before .before .before .before .before .before .before .before .before .args .start) (now (c .before .before .before .before .before .before .before .before .before .before .before .args .s))) (c .before .before .before .before .before .before .before .before .before .before .before .args .n - 8) (c .before .before .before .before .before .before .before .loop .at) _ _ _ (sym (c .before .before .before .before .id .given .1) ∙ c .before .before .before .before .before .before .head .ensures) .whole, c .before .before .before .before .before .before .before .before .before .before .before .pre .1 .1)
 
 same-length-2 : tie.Need-same-length-2 Inv-loop μ-loop
 same-length-2 c = omega (arith, c .before .before .before .before .before .before .before .loop .inv .long, c .before .before .before .before .before .before .before .before .before .before .before .pre .0)
@@ -65,6 +65,9 @@ slice-write-seen c = omega (arith, head-small (drop (c .before .before .before .
 
 add-at : tie.Need-add-at Inv-loop μ-loop
 add-at c = omega (arith, head-small (drop (c .before .before .before .before .before .before .before .before .before .before .before .before .args .start) (now (c .before .before .before .before .before .before .before .before .before .before .before .before .args .s))) (c .before .before .before .before .before .before .before .before .before .before .before .before .args .n - 8) (c .before .before .before .before .before .before .before .before .loop .at) _ _ _ (sym (c .before .before .before .before .before .id .given .1) ∙ c .before .before .before .before .before .before .before .head .ensures) .whole, head-small (drop (c .before .before .before .before .before .before .before .before .before .before .before .before .args .start) (now (c .before .before .before .before .before .before .before .before .before .before .before .before .args .s))) (c .before .before .before .before .before .before .before .before .before .before .before .before .args .n - 8) (c .before .before .before .before .before .before .before .before .loop .at) _ _ _ (sym (c .before .before .before .before .before .id .given .1) ∙ c .before .before .before .before .before .before .before .head .ensures) .most, c .before .before .before .before .before .before .before .before .before .before .before .before .pre .1 .1)
+
+add-count : tie.Need-add-count Inv-loop μ-loop
+add-count c = omega (arith, head-small (drop (c .before .before .before .before .before .before .before .before .before .before .before .before .args .start) (now (c .before .before .before .before .before .before .before .before .before .before .before .before .args .s))) (c .before .before .before .before .before .before .before .before .before .before .before .before .args .n - 8) (c .before .before .before .before .before .before .before .before .loop .at) _ _ _ (sym (c .before .before .before .before .before .id .given .1) ∙ c .before .before .before .before .before .before .before .head .ensures) .whole, c .before .before .before .before .before .before .before .before .loop .inv .few, c .before .before .before .before .before .before .before .before .before .before .before .before .pre .1 .1)
 
 loop-less : tie.Need-loop-less Inv-loop μ-loop
 loop-less c = omega (arith, head-small (drop (c .before .before .before .before .before .before .before .before .before .before .before .before .args .start) (now (c .before .before .before .before .before .before .before .before .before .before .before .before .args .s))) (c .before .before .before .before .before .before .before .before .before .before .before .before .args .n - 8) (c .before .before .before .before .before .before .before .before .loop .at) _ _ _ (sym (c .before .before .before .before .before .id .given .1) ∙ c .before .before .before .before .before .before .before .head .ensures) .whole, head-small (drop (c .before .before .before .before .before .before .before .before .before .before .before .before .args .start) (now (c .before .before .before .before .before .before .before .before .before .before .before .before .args .s))) (c .before .before .before .before .before .before .before .before .before .before .before .before .args .n - 8) (c .before .before .before .before .before .before .before .before .loop .at) _ _ _ (sym (c .before .before .before .before .before .id .given .1) ∙ c .before .before .before .before .before .before .before .head .ensures) .least)
@@ -88,11 +91,12 @@ pass-spec =
     returns-2
     slice-read-ways
     repeats-requires
-    add-t19
+    add-t20
     same-length-2
     returns-3
     joined-requires
     slice-write-seen
     add-at
+    add-count
     loop-less
     loop-again)

@@ -2,28 +2,32 @@
 use Prim.Native.Nat.{_-_}
 use lib.ListN.{length}
 use Rattle.message.proofs.Placing.{Storing, storing-first, storing-end, storing-room, pig-small, storing-on}
+use Rattle.message.proofs.Colliding.{line-few}
 use borrow.Author.Needs.{needs}
 use native.Mathlib.Omega.{arith}
 use Rattle.message.proofs.storing.store.Statement.{statement}
 use Rattle.message.proofs.storing.store.Tie as tie
 
 abbrev Inv-loop : tie.InvT-loop
-Inv-loop s ns pigs₀ numbers₀ k₀ before₀ i₀ pigs numbers k before i = Storing s ns pigs₀ numbers₀ k before i pigs numbers
+Inv-loop s ns counts pigs₀ numbers₀ k₀ i₀ pigs numbers k i = Storing s ns pigs₀ numbers₀ k i pigs numbers
 
 abbrev μ-loop : tie.MeasureT-loop
-μ-loop s ns pigs₀ numbers₀ k₀ before₀ i₀ pigs numbers k before i = length ns - k
+μ-loop s ns counts pigs₀ numbers₀ k₀ i₀ pigs numbers k i = length ns - k
 
 loop-holds : tie.Need-loop-holds Inv-loop μ-loop
-loop-holds c = storing-first (c .before .before .before .before .pre .0)
+loop-holds c = storing-first (c .before .before .before .before .before .pre .0)
 
-balise-at-requires : tie.Need-balise-at-requires Inv-loop μ-loop
-balise-at-requires c κs = search needs
+mul-lay : tie.Need-mul-lay Inv-loop μ-loop
+mul-lay c = search needs
 
-cast-keep : tie.Need-cast-keep Inv-loop μ-loop
-cast-keep c = omega (arith, pig-small (c .before .before .before .before .before .before .before .pre .0) (c .before .before .loop .inv) (c .before .loop-test .taken) (c .balise-at .result) (c .balise-at .ensures))
+shared-slice-read-lay : tie.Need-shared-slice-read-lay Inv-loop μ-loop
+shared-slice-read-lay c = omega (arith, c .before .before .before .before .before .before .before .before .pre .1 .0 .wide, line-few (c .before .before .before .before .before .before .before .before .pre .0), c .before .loop-test .taken)
 
-keep-requires : tie.Need-keep-requires Inv-loop μ-loop
-keep-requires c κs = storing-room (c .before .before .before .before .before .before .before .before .before .pre .0) (c .before .before .before .before .loop .inv) (c .before .before .before .loop-test .taken) (c .before .before .balise-at .result) (c .before .before .balise-at .ensures) (c .before .before .before .before .before .before .before .before .before .pre .1 .0) (c .before .before .before .before .before .before .before .before .before .pre .1 .1)
+cast-lay : tie.Need-cast-lay Inv-loop μ-loop
+cast-lay c = omega (arith, pig-small (c .before .before .before .before .before .before .before .before .pre .0) (c .before .before .loop .inv) (c .before .loop-test .taken) _ (c .before .before .before .before .before .before .before .before .pre .1 .0 .of (c .before .before .loop .k) (c .before .loop-test .taken)))
+
+lay-requires : tie.Need-lay-requires Inv-loop μ-loop
+lay-requires c κs = storing-room (c .before .before .before .before .before .before .before .before .before .before .pre .0) (c .before .before .before .before .loop .inv) (c .before .before .before .loop-test .taken) _ (c .before .before .before .before .before .before .before .before .before .before .pre .1 .0 .of (c .before .before .before .before .loop .k) (c .before .before .before .loop-test .taken)) (c .before .before .before .before .before .before .before .before .before .before .pre .1 .1 .0) (c .before .before .before .before .before .before .before .before .before .before .pre .1 .1 .1)
 
 add-k : tie.Need-add-k Inv-loop μ-loop
 add-k c = search needs
@@ -32,7 +36,7 @@ loop-less : tie.Need-loop-less Inv-loop μ-loop
 loop-less c = search needs
 
 loop-again : tie.Need-loop-again Inv-loop μ-loop
-loop-again c = storing-on (c .before .before .before .before .before .before .before .before .before .before .before .before .before .before .pre .0) (c .before .before .before .before .before .before .before .before .before .loop .inv) (c .before .before .before .before .before .before .before .before .loop-test .taken) (c .before .before .before .before .before .before .before .balise-at .result) (c .before .before .before .before .before .before .before .balise-at .ensures) (c .before .before .before .before .keep .ensures)
+loop-again c = storing-on (c .before .before .before .before .before .before .before .before .before .before .before .before .before .before .before .pre .0) (c .before .before .before .before .before .before .before .before .before .loop .inv) (c .before .before .before .before .before .before .before .before .loop-test .taken) _ (c .before .before .before .before .before .before .before .before .before .before .before .before .before .before .before .pre .1 .0 .of (c .before .before .before .before .before .before .before .before .before .loop .k) (c .before .before .before .before .before .before .before .before .loop-test .taken)) (c .before .before .before .before .lay .ensures)
 
 same-length : tie.Need-same-length Inv-loop μ-loop
 same-length c = c .before .loop .inv .pigsLong
@@ -41,7 +45,7 @@ same-length-2 : tie.Need-same-length-2 Inv-loop μ-loop
 same-length-2 c = c .before .loop .inv .numbersLong
 
 returns : tie.Need-returns Inv-loop μ-loop
-returns c = storing-end (c .before .before .before .before .before .before .pre .0) (c .before .loop .inv) (c .loop-test .left)
+returns c = storing-end (c .before .before .before .before .before .before .before .pre .0) (c .before .loop .inv) (c .loop-test .left)
 
 pub store-spec : {M : Type 1} → statement M
 store-spec =
@@ -50,9 +54,10 @@ store-spec =
     Inv-loop
     μ-loop
     loop-holds
-    balise-at-requires
-    cast-keep
-    keep-requires
+    mul-lay
+    shared-slice-read-lay
+    cast-lay
+    lay-requires
     add-k
     loop-less
     loop-again
