@@ -14,14 +14,22 @@
 #include <stddef.h>
 #include <stdint.h>
 
+/* Of what this header declares. The second number rises with each change that adds something, the first with one that takes something away or
+ * changes an answer; before 1.0 the second stands for both. */
+#define SINKERPOST_VERSION "0.5.0"
+#define SINKERPOST_VERSION_NUMBER 500 /* 10,000, 100 and 1 times its three numbers */
+
 #ifdef __cplusplus
 extern "C" {
 #endif
 
+/* Room for the bytes of any telegram. */
+enum { SINKERPOST_BYTES = 104 };
+
 /* Whether the bytes and n are a telegram. */
 uint64_t sinkerpost_check(const uint8_t *bytes, size_t length, uint64_t n);
 
-/* Writes the normal form of a telegram, which has n bits too, into out, at least 104 bytes. Bytes past ceil(n/8) - 1 stay as they
+/* Writes the normal form of a telegram, which has n bits too, into out, at least SINKERPOST_BYTES. Bytes past ceil(n/8) - 1 stay as they
  * were; a refusal changes none. */
 uint64_t sinkerpost_normalise(const uint8_t *bytes, size_t length, uint64_t n, uint8_t *out, size_t room);
 
@@ -43,9 +51,11 @@ enum { SINKERPOST_PACKETS = 264 };
 #define SINKERPOST_NUMBER(answer) ((answer) / 1024)
 #define SINKERPOST_PLACE(answer) ((answer) % 1024)
 
+/* The refusals. The functions above give 1 to 11 and 21 to 23; 12, 13 and 20 are the numbers that the writer and the import of a data sheet print, for
+ * programs that read those. */
 enum {
     SINKERPOST_OK = 0,
-    SINKERPOST_ROOM = 1,       /* out is shorter than 104 bytes */
+    SINKERPOST_ROOM = 1,       /* what is lent is too short: out has fewer than 104 bytes, or a run has room for fewer than 264 packets */
     SINKERPOST_SIZE = 2,       /* n outside 58..830, or the input is not ceil(n/8) bytes */
     SINKERPOST_PADDING = 3,    /* an unused low bit of the last byte is 1 */
     SINKERPOST_HEADER = 4,     /* a header rule is broken */
@@ -55,7 +65,10 @@ enum {
     SINKERPOST_LENGTH = 8,     /* L_PACKET is not the number of bits that its packet takes */
     SINKERPOST_DIRECTION = 9,  /* a CTCS packet's Q_DIR differs from that of its ETCS-44 */
     SINKERPOST_REPEATED = 10,  /* a second packet of one NID_PACKET, other than 44, with the Q_DIR of an earlier one, or one of the two is 2 */
-    SINKERPOST_TRAILING = 11,  /* bits follow the end mark */
+    SINKERPOST_TRAILING = 11,  /* bits, or values, follow the end mark */
+    SINKERPOST_WIDE = 12,      /* a value that is to be written does not fit its field */
+    SINKERPOST_FULL = 13,      /* a field that is to be written would end past bit 830 */
+    SINKERPOST_ROW = 20,       /* a row of a data sheet is none, or its name is not the one due there; the place is the row */
     SINKERPOST_IDENTITY = 21,  /* the telegrams are not one group: identity, positions, or how many there are */
     SINKERPOST_COUNTERS = 22,  /* their counters do not match */
     SINKERPOST_COPIED = 23     /* M_DUP names no balise, or one with other packets */
