@@ -1,4 +1,4 @@
--- Document 01, "Worked telegrams", the proved group: "Cases 1 to 8 are one table, proved once against the definitions; other cases are run". One
+-- docs/RULES.md, "Worked telegrams", the proved group: "Cases 1 to 8 are one table, proved once against the definitions; other cases are run". One
 -- table of claims about the definitions. Definitions alone.
 use mathlib.Core.Bool.{Bool, true, false, not, _&&_}
 use mathlib.Core.List.{List, [], _∷_, _++_}
@@ -117,7 +117,7 @@ unfoldable pub cases : List Claim
 cases =
     -- 1. The header and the end mark: 58 bits, 11 values
     reads (eight 0xC0) 58 (head ++ (255 ∷ [])) 11
-    -- 2. The same with C1 last; the same eight bytes with n = 59 (document 02, 2: place 58); n = 57
+    -- 2. The same with C1 last; the same eight bytes with n = 59 (place 58); n = 57
     ∷ refuses (eight 0xC1) 58 3 0
     ∷ refuses (eight 0xC0) 59 11 58
     ∷ refuses (eight 0xC0) 57 2 0

@@ -1,2 +1,2 @@
--- The worked telegrams of document 01.
+-- The worked telegrams of docs/RULES.md.
 pub mod Cases

@@ -1,1 +1,1 @@
-// No code: document 01's worked telegrams, one table of claims in specs/ that proofs/ has computed against the definitions.
+// No code: the worked telegrams of docs/RULES.md, one table of claims in specs/ that proofs/ has computed against the definitions.

@@ -3,7 +3,7 @@ ghost use mathlib.Core.Path.{_≡_};
 ghost use Rattle.group.specs.Groups.{causeNumber};
 use group::Cause;
 
-// Document 02's number of a cause.
+// The number of a cause (docs/RULES.md, "Groups").
 pub fn number(cause: Cause) -> u64
     ensures { λ r. ⌜ r ≡ causeNumber cause ⌝ }
 {

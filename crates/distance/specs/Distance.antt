@@ -1,4 +1,4 @@
--- Document 01, "Distances and the normal form": distances by the scale that a Q_SCALE is. Definitions and worked examples.
+-- docs/RULES.md, "Distances and the normal form": distances by the scale that a Q_SCALE is. Definitions and worked examples.
 use mathlib.Core.Path.{_≡_, refl}
 use mathlib.Core.Bool.{Bool, true, false, _&&_}
 use mathlib.Core.List.{[], _∷_}

@@ -1,4 +1,4 @@
--- What is proved about the definitions of document 01.
+-- What is proved about the definitions of docs/RULES.md.
 pub mod Rows
 pub mod Rests
 pub mod Heads

@@ -1,4 +1,4 @@
--- Worked telegrams for each rule, computed by the checker: what the definitions answer to lists of values. Document 01's own cases are not
+-- Worked telegrams for each rule, computed by the checker: what the definitions answer to lists of values. The cases of docs/RULES.md are not
 -- among them: they are the table of the crate `cases`. Assumes nothing.
 use mathlib.Core.Path.{_≡_, refl}
 use mathlib.Core.List.{List, [], _∷_, _++_, map}
@@ -82,7 +82,7 @@ directions-collide : map (λ first. map (λ d. told (sight first (sight d (255 �
 unfolding writtenBy
 directions-collide = refl
 
--- by document 01's rule, that two directions are the same, one for both ways could stand beside one for one way
+-- by the rule that was first, that two directions are the same, one for both ways could stand beside one for one way
 directions-before : map (λ d. toldBy (record { placeOf = fieldPlace; collides = collidesBy eqb }) (sight 1 (sight d (255 ∷ [])))) (0 ∷ 1 ∷ 2 ∷ [])
     ≡ (0, 106) ∷ (10, 82) ∷ (0, 106) ∷ []
 unfolding writtenBy

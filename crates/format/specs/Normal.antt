@@ -1,4 +1,4 @@
--- Document 01, "Distances and the normal form": what a telegram says, and its normal form. Definitions alone.
+-- docs/RULES.md, "Distances and the normal form": what a telegram says, and its normal form. Definitions alone.
 use mathlib.Core.Bool.{Bool, true, false, cond, _&&_}
 use mathlib.Core.List.{List, [], _∷_}
 use Prim.Native.Nat.{ℕ, _%_, _^_}

@@ -1,4 +1,4 @@
--- Worked normal forms, computed by the checker; document 01's own are in the table of the crate `cases`, or are run. Assumes nothing.
+-- Worked normal forms, computed by the checker; those of docs/RULES.md are in the table of the crate `cases`, or are run. Assumes nothing.
 use mathlib.Core.List.{List, [], _∷_, _++_, map}
 use mathlib.Core.Path.{_≡_, refl}
 use Prim.Native.Nat.{ℕ}

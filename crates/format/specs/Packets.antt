@@ -1,4 +1,4 @@
--- Document 01, "Header" and "Packets": what is sent, in order of sending, as data. Definitions alone.
+-- docs/RULES.md, "Header" and "Packets": what is sent, in order of sending, as data. Definitions alone.
 use mathlib.Core.Bool.{cond}
 use mathlib.Core.List.{List, [], _∷_}
 use mathlib.Core.Option.{Option, some, none}

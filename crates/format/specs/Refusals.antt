@@ -1,4 +1,4 @@
--- Document 01, "Refusal numbers": the number of each kind, and what an answer says in numbers. Definitions alone.
+-- docs/RULES.md, "Refusal numbers": the number of each kind, and what an answer says in numbers. Definitions alone.
 use Prim.Native.Nat.{ℕ, _+_, _*_}
 use Rattle.format.specs.declared.Kind.{Kind}
 use Rattle.format.specs.declared.Kind.the-variants.{Room, Size, Padding, Header, Ended, Unknown, Value, Length, Direction, Repeated, Trailing, Wide, Full}
@@ -24,7 +24,7 @@ numberOf Value = 7
 numberOf Length = 8
 -- a CTCS packet's Q_DIR differs from that of its ETCS-44
 numberOf Direction = 9
--- a second packet, other than ETCS-44, has the NID_PACKET of an earlier one and, by document 02, 3, a Q_DIR that collides with its Q_DIR
+-- a second packet, other than ETCS-44, has the NID_PACKET of an earlier one and a Q_DIR that collides with its Q_DIR
 numberOf Repeated = 10
 -- bits, or values, follow the end mark
 numberOf Trailing = 11

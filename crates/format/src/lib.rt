@@ -1,7 +1,7 @@
-// The types that document 01's definitions speak of: the refusals, the answers that carry them, and where a packet begins. The definitions
+// The types that the definitions of docs/RULES.md speak of: the refusals, the answers that carry them, and where a packet begins. The definitions
 // are under specs/, and the code that computes them in the crates `packets`, `refusals`, `table` and `clashes`.
 
-// The kinds of refusal; `numberOf` in specs/Refusals.antt gives document 01's number of each.
+// The kinds of refusal; `numberOf` in specs/Refusals.antt gives the number of each (docs/RULES.md).
 pub enum Kind {
     Room,
     Size,

@@ -11,7 +11,7 @@ use Rattle.states.specs.Reader.{checked}
 use Rattle.group.specs.Groups.{Part, Message, parts, arrived, grouped, inOrder, counted, miscopied, counting, packetsFrom, collision, lined, message, causeNumber, group}
 use Rattle.group.specs.Groups.Message.{lists, refuses}
 
--- an answer: the packets, each by its N_PIG and its number; or document 02's number, which telegram, and the place
+-- an answer: the packets, each by its N_PIG and its number; or the number, which telegram, and the place
 data Said : Type 0 where
   packets : List (ℕ × ℕ) → Said
   refusal : ℕ → ℕ → ℕ → Said

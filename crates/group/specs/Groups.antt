@@ -1,4 +1,4 @@
--- Document 02, 5: a balise group as one message. Definitions alone.
+-- docs/RULES.md, "Groups": a balise group as one message. Definitions alone.
 use mathlib.Core.Bool.{Bool, true, false, cond, not, _&&_, _||_}
 use mathlib.Core.List.{List, [], _∷_, _++_, map}
 use mathlib.Core.Path.{_≡_}
@@ -180,7 +180,7 @@ collision seen (m ∷ ms) =
 
 -- ---- the message
 
--- document 02's number of each cause: "21 identity or positions", "22 counters", "23 M_DUP ..", "then 10"
+-- the number of each cause: "21 identity or positions", "22 counters", "23 M_DUP ..", "then 10"
 abbrev pub causeNumber : Cause → ℕ
 causeNumber Room = 1
 causeNumber (Single k) = numberOf k

@@ -3,7 +3,7 @@
 use format::Kind;
 use format::Refusal;
 
-// Why a group is refused. `causeNumber` in specs/Groups.antt gives document 02's number of each.
+// Why a group is refused. `causeNumber` in specs/Groups.antt gives the number of each (docs/RULES.md).
 pub enum Cause {
     // there is no room for 264 packets
     Room,

@@ -1,4 +1,4 @@
--- What changed where 2 came to collide with 0 and 1: document 01's rule of directions, that two are the same, and document 02's, that one
+-- What changed where 2 came to collide with 0 and 1: the first rule of directions, that two are the same, and the one that holds, that one
 -- train gets both. Assumes nothing.
 use mathlib.Core.Bool.{Bool, true, false, _||_, or-true}
 use mathlib.Core.List.{List}

@@ -1,4 +1,4 @@
--- Document 01, "Distances and the normal form": that the fields which count as distances are those that it names, computed by the checker over all fields.
+-- docs/RULES.md, "Distances and the normal form": that the fields which count as distances are those that it names, computed by the checker over all fields.
 -- Assumes nothing.
 use mathlib.Core.Bool.{Bool, true, false, not, _&&_, _||_}
 use mathlib.Core.List.{map}

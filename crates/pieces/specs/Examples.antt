@@ -25,7 +25,7 @@ edge : decimalIn (decimal 18446744073709551615) ∷ decimalIn (decimal 184467440
 unfolding decimalIn digitsFrom digitsOf
 edge = refl
 
--- 08614970020002FF, document 01's case 7
+-- 08614970020002FF, worked telegram 7
 abbrev radio : List ℕ
 radio = 48 ∷ 56 ∷ 54 ∷ 49 ∷ 52 ∷ 57 ∷ 55 ∷ 48 ∷ 48 ∷ 50 ∷ 48 ∷ 48 ∷ 48 ∷ 50 ∷ 70 ∷ 70 ∷ []
 

@@ -1,4 +1,4 @@
--- Document 02, request 1: numbers as text, written and read. Definitions alone.
+-- docs/RULES.md, "Data sheets": numbers as text, written and read. Definitions alone.
 use mathlib.Core.Bool.{Bool, cond, _&&_, _||_}
 use mathlib.Core.List.{List, [], _∷_, _++_}
 use mathlib.Core.Option.{Option, some, none}

@@ -3,7 +3,7 @@ ghost use mathlib.Core.Path.{_≡_};
 ghost use Rattle.format.specs.Refusals.{numberOf};
 use format::Kind;
 
-// Document 01's number of a refusal.
+// The number of a refusal (docs/RULES.md, "Refusal numbers").
 pub fn number(kind: Kind) -> u64
     ensures { λ r. ⌜ r ≡ numberOf kind ⌝ }
 {

@@ -1,4 +1,4 @@
--- Document 02, request 1: a text taken as a sheet. "in import 20, at the first such row (header 0), for a wrong header, a row that isn't a
+-- docs/RULES.md, "Data sheets": a text taken as a sheet. "in import 20, at the first such row (header 0), for a wrong header, a row that isn't a
 -- known name, that name's own width, a value (no needless zeros) and CRLF, a number past 64 bits or an 831st field row". Definitions alone.
 use mathlib.Core.Bool.{cond}
 use mathlib.Core.List.{List, [], _∷_}

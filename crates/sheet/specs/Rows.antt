@@ -1,4 +1,4 @@
--- Document 02, request 1: the text of a sheet. "RFC 4180 text: a header row `variable,bits,value`, CRLF, one row per field". Definitions alone.
+-- docs/RULES.md, "Data sheets": the text of a sheet. "RFC 4180 text: a header row `variable,bits,value`, CRLF, one row per field". Definitions alone.
 use mathlib.Core.Bool.{Bool, cond}
 use mathlib.Core.List.{List, [], _∷_, _++_}
 use Prim.Native.Char.{code}
@@ -26,7 +26,7 @@ crlf = 13 ∷ 10 ∷ []
 unfoldable pub heading : List ℕ
 heading = textOf "variable,bits,value" ++ crlf
 
--- "names as in document 01 (the end mark is `END`)", and "that name's own width": what a row begins with
+-- "names as in [the rules] (the end mark is `END`)", and "that name's own width": what a row begins with
 unfoldable pub labelText : Field → List ℕ
 labelText f = textOf (f .name) ++ comma ++ decimal (f .width) ++ comma
 

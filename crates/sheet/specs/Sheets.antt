@@ -1,4 +1,4 @@
--- Document 02, request 1: what export and import answer, and what they leave in what is lent. Definitions alone.
+-- docs/RULES.md, "Data sheets": what export and import answer, and what they leave in what is lent. Definitions alone.
 use mathlib.Core.Path.{_≡_}
 use mathlib.Core.Bool.{cond}
 use mathlib.Core.List.{List, [], _∷_, _++_}

@@ -1,4 +1,4 @@
--- Document 01: what checking and normalising answer where they are called from C. Definitions alone.
+-- docs/RULES.md, "Telegrams": what checking and normalising answer where they are called from C. Definitions alone.
 use mathlib.Core.Path.{_≡_}
 use mathlib.Core.List.{List}
 use Prim.Native.Nat.{ℕ, _≤_}

@@ -1,4 +1,4 @@
--- What the machine's state stands for in document 01's definitions, and what each of its functions promises. Definitions alone.
+-- What the machine's state stands for in the definitions of crate format, and what each of its functions promises. Definitions alone.
 use mathlib.Core.Path.{_≡_}
 use mathlib.Core.Bool.{true, false, Bool, cond, not, _&&_, _||_}
 use mathlib.Core.List.{List, [], _∷_}

@@ -1,4 +1,4 @@
--- Document 01, "Distances and the normal form": what normalising answers, and what the lent bytes then hold. Definitions alone.
+-- docs/RULES.md, "Distances and the normal form": what normalising answers, and what the lent bytes then hold. Definitions alone.
 use mathlib.Core.Path.{_≡_}
 use mathlib.Core.Bool.{Bool, true, cond, _&&_}
 use mathlib.Core.List.{List, _++_}

@@ -1,4 +1,4 @@
--- Document 01: what the reader and the check answer, and what the lent run of values then holds. Definitions alone.
+-- docs/RULES.md, "Telegrams": what the reader and the check answer, and what the lent run of values then holds. Definitions alone.
 use mathlib.Core.Path.{_≡_}
 use mathlib.Core.Bool.{Bool, cond, _&&_}
 use mathlib.Core.List.{List, _++_}

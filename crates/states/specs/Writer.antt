@@ -1,4 +1,4 @@
--- Document 01: what the writer answers, and what the lent bytes then hold. Definitions alone.
+-- docs/RULES.md, "Telegrams": what the writer answers, and what the lent bytes then hold. Definitions alone.
 use mathlib.Core.Path.{_≡_}
 use mathlib.Core.Bool.{cond}
 use mathlib.Core.List.{List, _++_}

@@ -1,4 +1,4 @@
-// The machine that follows document 01 field by field. `step` is the definition `step` of the crate format; what a state stands for there
+// The machine that follows docs/RULES.md field by field. `step` is the definition `step` of the crate format; what a state stands for there
 // is said in specs/Machine.antt of the crate states.
 ghost use mathlib.Core.Path.{_≡_};
 ghost use Rattle.states.specs.Machine.{freshAt, Settling, Settled, Stepping, Entered, Stepped};
