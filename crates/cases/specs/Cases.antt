@@ -1,4 +1,4 @@
--- docs/RULES.md, "Worked telegrams", the proved group: "Cases 1 to 8 are one table, proved once against the definitions; other cases are run". One
+-- docs/RULES.md, "Worked telegrams", 1 to 8, asked for as "Cases 1 to 8 are one table, proved once against the definitions; other cases are run". One
 -- table of claims about the definitions. Definitions alone.
 use mathlib.Core.Bool.{Bool, true, false, not, _&&_}
 use mathlib.Core.List.{List, [], _∷_, _++_}

@@ -1,4 +1,5 @@
--- docs/RULES.md, "What shape each place takes": "Each kind of packet keeps its identifier and fixed widths with the kind". What the kinds' choice answers. Definitions alone.
+-- docs/RULES.md, "What shape each place takes", asked for as "Each kind of packet keeps its identifier and fixed widths with the kind".
+-- What the kinds' choice answers. Definitions alone.
 use mathlib.Core.Bool.{cond, _||_}
 use mathlib.Core.List.{List, [], _∷_}
 use Prim.Native.Nat.{ℕ, _+_}

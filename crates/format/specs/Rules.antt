@@ -229,7 +229,7 @@ byLevel inUser a b c = c
 abbrev pub misfit : ℕ → Context → Spot
 misfit past c = byLevel (c .level) Due Outer (cond (eqb (past - c .userStart) (c .userLong)) Outer Inner)
 
--- docs/RULES.md, "Refusal numbers": "the offending field ..; for 8 that is the L_PACKET field, for 11 the first bit past the end mark"; it is found at a
+-- docs/RULES.md, "Place", asked for as "the offending field ..; for 8 that is the L_PACKET field, for 11 the first bit past the end mark"; it is found at a
 -- field that ends at the bit past
 unfoldable pub spotOf : Kind → ℕ → Context → Spot
 spotOf k past c = cond (eqb (numberOf k) 8) (misfit past c) (cond (eqb (numberOf k) 11) Behind Due)
@@ -251,7 +251,7 @@ fieldPlace k s = placeFrom k (s .at) (past s) (s .context)
 
 -- ---- collisions
 
--- docs/RULES.md, "Allowed values": "A packet valid both ways counts for each way", "From now on 2 collides with 0, 1 and 2". When two directions collide: they
+-- docs/RULES.md, "Packets that collide", asked for as "A packet valid both ways counts for each way", "From now on 2 collides with 0, 1 and 2". When two directions collide: they
 -- are the same, or one of them is both ways. (Q_DIR 3 is refused before, by 7.)
 unfoldable pub clash : ℕ → ℕ → Bool
 clash d e = eqb d e || (eqb d 2 || eqb e 2)

@@ -1,4 +1,4 @@
--- docs/RULES.md, "Refusal numbers": "At one field: 5, 12, 13, then 4, 6 or 7, then 9 (inner Q_DIR) or 10 (outer Q_DIR). 8 is tested after a packet's last
+-- docs/RULES.md, "Order", asked for as "At one field: 5, 12, 13, then 4, 6 or 7, then 9 (inner Q_DIR) or 10 (outer Q_DIR). 8 is tested after a packet's last
 -- field". The order of the rules at one field, for any terms. Assumes nothing.
 use mathlib.Core.Bool.{Bool, true, false, cond, not, _&&_, _||_}
 use mathlib.Core.List.{List, [], _∷_}

@@ -1,4 +1,4 @@
--- docs/RULES.md, "Data sheets": "names as in [the rules] (the end mark is `END`)". The name of a field by its number. Definitions alone.
+-- docs/RULES.md, "Data sheets", asked for as "names as in [the rules] (the end mark is `END`)". The name of a field by its number. Definitions alone.
 use mathlib.Core.Bool.{cond}
 use mathlib.Core.List.{List, [], _∷_}
 use Prim.Native.Nat.{ℕ, _-_}
