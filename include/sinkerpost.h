@@ -5,8 +5,8 @@
  * the offending field begins or would begin. They keep nothing between calls, allocate nothing and touch nothing but the bytes that
  * they are lent.
  *
- * What the caller answers for: `bytes` is `length` bytes that can be read, `out` is `room` bytes that can be written, and the two
- * do not overlap. A pointer is never null, not even with a length of 0.
+ * The caller's own duty: `bytes` is `length` bytes and `sizes` is `telegrams` numbers that can be read; `out`, `pigs` and `numbers` are as many bytes
+ * as is said that can be written; and no two of them overlap. A pointer is never null, not even with a length of 0.
  */
 #ifndef SINKERPOST_H
 #define SINKERPOST_H
@@ -41,7 +41,7 @@ uint64_t sinkerpost_group(const uint8_t *bytes, size_t length, const size_t *siz
 
 enum { SINKERPOST_PACKETS = 264 };
 
-/* Of what sinkerpost_group answers: 0 for a message, or the number of the refusal; the arrival number of the telegram that is refused by itself, or
+/* Of what sinkerpost_group answers: 0 for a message, and the answer is then the count of its packets; or the number of the refusal; the arrival number of the telegram that is refused by itself, or
  * the N_PIG for 23 and for 10 over the group; and the place. A 10 can be either: a telegram that holds both packets is refused by itself. */
 #define SINKERPOST_GROUP_NUMBER(answer) ((answer) >> 59)
 #define SINKERPOST_GROUP_WHICH(answer) ((answer) >> 10 & 0x1ffffffffffff)

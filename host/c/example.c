@@ -4,7 +4,7 @@
  *     ok 90027F8125DFFFC0
  *     refused 11 58
  *
- * It ends with 0 if all are accepted, with 1 if one is refused, and with 2 if one is not HEX:N.
+ * It ends with 0 if all are accepted, with 1 if one is refused, and with 2 if one is not HEX:N or its answer could not be written.
  */
 #include <inttypes.h>
 #include <stdio.h>
@@ -67,7 +67,7 @@ static int answer(const char *text)
     uint8_t *bytes = parse(text, &length, &n);
     uint8_t *out = malloc(SINKERPOST_BYTES);
     if (bytes == NULL || out == NULL) {
-        fprintf(stderr, "example: '%s' is not HEX:N\n", text);
+        fprintf(stderr, out == NULL ? "example: no memory for '%s'\n" : "example: '%s' is not HEX:N\n", text);
         free(bytes);
         free(out);
         return 2;
@@ -97,6 +97,10 @@ int main(int count, char **arguments)
         int status = answer(arguments[i]);
         if (worst < status)
             worst = status;
+    }
+    if (fflush(stdout) != 0) {
+        perror("example");
+        return 2;
     }
     return worst;
 }

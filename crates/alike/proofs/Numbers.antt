@@ -1,4 +1,4 @@
--- What is answered of two telegrams is known by this paper's numbers of it. Assumes nothing.
+-- What is answered of two telegrams is known by its numbers. Assumes nothing.
 use mathlib.Core.Path.{_≡_, refl, ap}
 use Prim.Native.Nat.{ℕ}
 use native.Mathlib.Omega.{arith}

@@ -40,7 +40,7 @@ alike (both es fs) = cond (same (bits (normal es)) (bits (normal fs))) Same Othe
 alike (first r) = First r
 alike (second r) = Second r
 
--- "When an answer is an enum, a definition specifies this paper's number and values for each of its cases": which telegram is refused, and by which number
+-- "When an answer is an enum, a definition specifies [the rules'] number and values for each of its cases": which telegram is refused, and by which number
 -- and where; none, and then 0 where they say the same and 1 where they do not. `alike-is` in proofs/Numbers.antt says that an answer is known by them.
 abbrev pub inNumbers : Alike → ℕ × ℕ × ℕ
 inNumbers Same = (0, 0, 0)

@@ -50,7 +50,7 @@ bothDiffer (accepted es) (accepted fs) = not (same (bits es) (bits fs))
 bothDiffer (accepted es) (refused r) = false
 bothDiffer (refused r) b = false
 
--- the paper's two numbers of an answer, and the values behind them
+-- the two numbers of an answer (docs/RULES.md), and the values behind them
 abbrev pub numbered : ℕ × ℕ → List ℕ → List ℕ
 numbered x vs = x .0 ∷ x .1 ∷ vs
 

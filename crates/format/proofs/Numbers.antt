@@ -1,4 +1,4 @@
--- An answer is known by this paper's number and value of it: no two answers have the same. Assumes nothing.
+-- An answer is known by its number and its value: no two answers have the same. Assumes nothing.
 use mathlib.Core.Bool.{true}
 use mathlib.Core.List.{[], _∷_}
 use mathlib.Core.Path.{_≡_, refl, sym, ap, ap₂, _∙_}

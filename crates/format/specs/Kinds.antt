@@ -1,4 +1,4 @@
--- docs/RULES.md, "What shape each place takes", asked for as "Each kind of packet keeps its identifier and fixed widths with the kind".
+-- docs/RULES.md, "Forms of the code", asked for as "Each kind of packet keeps its identifier and fixed widths with the kind".
 -- What the kinds' choice answers. Definitions alone.
 use mathlib.Core.Bool.{cond, _||_}
 use mathlib.Core.List.{List, [], _∷_}

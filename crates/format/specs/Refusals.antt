@@ -33,7 +33,7 @@ numberOf Wide = 12
 -- writer: the field would end past bit 830
 numberOf Full = 13
 
--- "When an answer is an enum, a definition specifies this paper's number and values for each of its cases": 0 and what is given; or the
+-- "When an answer is an enum, a definition specifies [the rules'] number and values for each of its cases": 0 and what is given; or the
 -- refusal's number and its place. `answer-is` in proofs/Numbers.antt says that an answer is known by them.
 abbrev pub inNumbers : Answer → ℕ × ℕ
 inNumbers (Accepted given) = (0, given)

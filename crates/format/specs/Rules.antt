@@ -270,6 +270,6 @@ collidesAmong collide i d before = not (eqb i 44) && among collide i d before
 unfoldable pub collidesBy : (ℕ → ℕ → Bool) → Context → ℕ → Bool
 collidesBy collide c v = collidesAmong collide (c .id) v (c .earlier)
 
--- the terms that hold
+-- the terms that hold: docs/RULES.md
 abbrev pub paper : Terms
 paper = record { placeOf = fieldPlace; collides = collidesBy clash }

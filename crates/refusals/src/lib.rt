@@ -1,4 +1,4 @@
-// Refusals in the paper's numbers.
+// Refusals in the numbers of docs/RULES.md.
 ghost use mathlib.Core.Path.{_≡_};
 ghost use Rattle.format.specs.Refusals.{numberOf};
 use format::Kind;

@@ -1,4 +1,4 @@
--- A reply is known by this paper's number and value of it: 0, 1 to 13 and 20 are three cases apart. And so, what each promise says of the
+-- A reply is known by its number and its value: 0, 1 to 13 and 20 are three cases apart. And so, what each promise says of the
 -- reply itself. For any terms. Assumes nothing.
 use mathlib.Core.List.{List}
 use mathlib.Core.Path.{_≡_, ap}

@@ -21,7 +21,7 @@ use Rattle.sheet.specs.Reading.Rows.{rows, bad}
 use Rattle.sheet.specs.declared.Reply.{Reply}
 use Rattle.sheet.specs.declared.Reply.the-variants.{Done, Refused, Row}
 
--- ---- a reply in the paper's numbers
+-- ---- a reply in the numbers of docs/RULES.md
 
 -- the number of what is refused, 0 where nothing is
 abbrev pub numberOf : Reply → ℕ
@@ -35,7 +35,7 @@ valueOf (Done n) = n
 valueOf (Refused r) = r .place
 valueOf (Row k) = k
 
--- "When an answer is an enum, a definition specifies this paper's number and values for each of its cases": a reply is known by them
+-- "When an answer is an enum, a definition specifies [the rules'] number and values for each of its cases": a reply is known by them
 -- (`reply-is` in proofs/Numbers.antt)
 abbrev pub inNumbers : Reply → ℕ × ℕ
 inNumbers reply = (numberOf reply, valueOf reply)
