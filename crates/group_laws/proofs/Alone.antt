@@ -9,11 +9,12 @@ use native.Mathlib.Omega.{arith}
 use borrow.Author.Tests.{eqb-true, eqb-false, eq-eqb, ne-eqb}
 use lib.Dec.{eqb}
 use lib.ListN.{length, length-append}
+use Rattle.format.specs.Among.{PacketIn}
 use Rattle.format.specs.Fields.{N-PIG, N-TOTAL, M-DUP, M-MCOUNT}
 use Rattle.format.specs.Rules.{Earlier, clash, among, collidesAmong, fieldPlace, paper}
 use Rattle.format.specs.Telegrams.{Entry, divided, bitCount, Telegram}
 use Rattle.format.specs.Telegrams.Result.{accepted}
-use Rattle.laws.proofs.Pairs.{PacketIn, Order, packets-ordered}
+use Rattle.laws.proofs.Pairs.{Order, packets-ordered}
 use Rattle.laws.proofs.Pairs.Order.{same, ahead, behind}
 use Rattle.laws.proofs.Apart.{telegram-apart}
 use Rattle.laws.proofs.EachWay.{clash-symmetric}

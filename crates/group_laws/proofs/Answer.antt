@@ -7,10 +7,10 @@ use Prim.Native.Nat.{ℕ, suc}
 use native.Mathlib.Omega.{arith}
 use borrow.Author.Tests.{ne-eqb}
 use lib.ListN.{length, length-append}
+use Rattle.format.specs.Among.{PacketIn}
 use Rattle.format.specs.Fields.{N-PIG, M-DUP}
 use Rattle.format.specs.Rules.{Terms}
 use Rattle.format.specs.Telegrams.{Entry}
-use Rattle.laws.proofs.Pairs.{PacketIn}
 use Rattle.group.specs.Groups.{Member, Balise, arrived, parts, held, grouped, linked, counting, packetsOf, listed, group}
 use Rattle.group.specs.Groups.Arrived.{all}
 use Rattle.group.specs.Groups.Message.{lists}

@@ -5,13 +5,13 @@ use mathlib.Core.List.{List, [], _∷_, _++_, append-assoc, append-nil, map, rev
 use mathlib.Core.Path.{_≡_, refl, sym, ap, _∙_, subst}
 use Prim.Native.Nat.{ℕ, _+_}
 use lib.Dec.{T, eqb}
+use Rattle.format.specs.Among.{holding}
 use Rattle.format.specs.Fields.{Field, NID-PACKET, Q-DIR, L-PACKET, END}
 use Rattle.format.specs.Packets.{Items, Packet, etcs, ctcs, header}
 use Rattle.format.specs.Packets.Items.{end}
 use Rattle.format.specs.Rules.{Earlier, named, next}
 use Rattle.format.specs.Telegrams.{Entry, entry, Divided, begins, before, divided, bitCount}
 use Rattle.laws.proofs.Steps.{going}
-use Rattle.laws.proofs.Points.{holding}
 use Rattle.laws.proofs.Every.{Every, IfSome, Throughout, passes, passed, found, every-named, every-next}
 use Rattle.laws.proofs.Whole.{Goes, Began, Whole, headed}
 use Rattle.laws.proofs.Whole.Goes.{here, further}

@@ -10,6 +10,7 @@ use Rattle.bits.specs.Bits.{digits, valueOf, bitsOf, bytesFor}
 use Rattle.bits.specs.Take.{fieldBits}
 use Rattle.bits.proofs.Digits.{length-digits, valueOf-digits}
 use Rattle.bits.proofs.Bytes.{bitsOf-append, length-bitsOf}
+use Rattle.format.specs.Among.{holding}
 use Rattle.format.specs.Fields.{Field, Q-UPDOWN, M-VERSION, Q-MEDIA, N-PIG, N-TOTAL, M-DUP, M-MCOUNT, NID-C, NID-BG, Q-LINK}
 use Rattle.format.specs.Packets.{Items, header}
 use Rattle.format.specs.Packets.Items.{end, send}
@@ -20,7 +21,6 @@ use Rattle.format.specs.Telegrams.Result.{accepted}
 use Rattle.laws.proofs.Round.{all-append}
 use Rattle.laws.proofs.Demand2.{length-bits}
 use Rattle.laws.proofs.Steps.{going-on, over-mark, go-next}
-use Rattle.laws.proofs.Points.{holding}
 use Rattle.states.proofs.Answers.{Sound, check-judges, sized-is}
 use Rattle.headers.specs.Headers.{numberAt}
 use Rattle.headers.proofs.Numbers.{number-is}

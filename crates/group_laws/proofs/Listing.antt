@@ -6,12 +6,11 @@ use mathlib.Core.Path.{_≡_, refl, sym, ap, ap₂, _∙_, subst}
 use Prim.Native.Nat.{ℕ, suc, _+_}
 use native.Mathlib.Omega.{arith}
 use lib.ListN.{length, length-append}
+use Rattle.format.specs.Among.{holding, PacketIn}
 use Rattle.format.specs.Fields.{NID-PACKET, Q-DIR, L-PACKET}
 use Rattle.format.specs.Rules.{Terms}
 use Rattle.format.specs.Telegrams.{Entry, Divided, begins, before, divided, bitCount, Telegram}
-use Rattle.laws.proofs.Points.{holding}
 use Rattle.laws.proofs.Tile.{endMark, bitCounts, bitCounts-append, bitCount-divided, joined, divided-joined, tiled}
-use Rattle.laws.proofs.Pairs.{PacketIn}
 use Rattle.group.specs.Groups.{Member, held, packetsFrom, packetsOf}
 use Rattle.group_laws.proofs.Packeting.{joined-append}
 use Rattle.group_laws.proofs.Heads.{IsHeaded, AllHeaded, AllPackets, divided-front}

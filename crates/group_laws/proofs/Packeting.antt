@@ -7,11 +7,11 @@ use lib.ListN.{length}
 use Rattle.bits.specs.Bits.{valueOf}
 use Rattle.bits.specs.Take.{fieldBits}
 use Rattle.bits.proofs.Fields.{field-in-field, field-lt, take-whole, take-past}
+use Rattle.format.specs.Among.{holding}
 use Rattle.format.specs.Fields.{NID-PACKET, Q-DIR, L-PACKET}
 use Rattle.format.specs.Rules.{paper}
 use Rattle.format.specs.Telegrams.{Entry, divided, bits, bitCount}
 use Rattle.laws.proofs.Demand2.{length-bits}
-use Rattle.laws.proofs.Points.{holding}
 use Rattle.laws.proofs.Tile.{endMark, joined, divided-joined, bitCount-append, bitCounts, bitCount-joined, bitCounts-append, tiled}
 use Rattle.laws.proofs.Whole.{headed}
 use Rattle.states.proofs.Accepting.{sent}

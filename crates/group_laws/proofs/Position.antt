@@ -7,6 +7,7 @@ use Prim.Native.Nat.{ℕ, _≤_}
 use native.Mathlib.Omega.{arith}
 use borrow.Author.Tests.{leb-true}
 use lib.Dec.{leb}
+use Rattle.format.specs.Among.{holding}
 use Rattle.format.specs.Fields.{Field, Q-UPDOWN, M-VERSION, Q-MEDIA, N-PIG, N-TOTAL, M-DUP, M-MCOUNT, NID-C, NID-BG, Q-LINK}
 use Rattle.format.specs.Packets.{Items, header}
 use Rattle.format.specs.Packets.Items.{end, send}
@@ -17,7 +18,6 @@ use Rattle.format.specs.Telegrams.Run.{last, more}
 use Rattle.format.specs.declared.Kind.{Kind}
 use Rattle.format.specs.declared.Kind.the-variants.{Header}
 use Rattle.laws.proofs.Steps.{going-on, over-mark, go-next}
-use Rattle.laws.proofs.Points.{holding}
 use Rattle.laws.proofs.Collided.{go-unbroken}
 use Rattle.group.specs.Groups.{held}
 

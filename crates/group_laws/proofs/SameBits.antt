@@ -7,13 +7,13 @@ use lib.ListN.{length, take, drop}
 use lib.Seq.{take-at, drop-at}
 use Rattle.bits.specs.Bits.{valueOf, digits}
 use Rattle.bits.proofs.Digits.{length-digits, valueOf-digits}
+use Rattle.format.specs.Among.{PacketIn}
 use Rattle.format.specs.Fields.{N-PIG}
 use Rattle.format.specs.Rules.{Terms}
 use Rattle.format.specs.Telegrams.{Entry, bits, bitsIn, bitCount, divided, Telegram}
 use Rattle.laws.proofs.Round.{all-append}
 use Rattle.laws.proofs.Demand2.{length-bits}
 use Rattle.laws.proofs.Tile.{endMark, joined, divided-joined, bitCount-append, tiled}
-use Rattle.laws.proofs.Pairs.{PacketIn}
 use Rattle.laws.proofs.Whole.{headed}
 use Rattle.group.specs.Groups.{Member, arrived, parts, held, body, packetsFrom, packetsOf, group}
 use Rattle.group.specs.Groups.Arrived.{all}

@@ -7,17 +7,18 @@ use mathlib.Core.Path.{_≡_, refl, sym, ap, _∙_, subst}
 use Prim.Native.Nat.{ℕ, _≤_}
 use native.Mathlib.Omega.{arith}
 use lib.Dec.{eqb}
+use Rattle.format.specs.Among.{holding}
 use Rattle.format.specs.Fields.{Field, NID-PACKET, Q-DIR}
 use Rattle.format.specs.Rules.{State, Context, Terms, Level, step, field, ruleOf, broken, among, collidesBy}
 use Rattle.format.specs.Rules.Level.{inPacket}
 use Rattle.format.specs.Rules.Next.{over, breaks}
-use Rattle.format.specs.Telegrams.{Entry, entry, bitCount, Run, Telegram}
+use Rattle.format.specs.Telegrams.{Entry, entry, bitCount, Run, Telegram, Fits}
 use Rattle.format.specs.Telegrams.Run.{last, more}
 use Rattle.format.specs.declared.Kind.{Kind}
 use Rattle.format.specs.declared.Kind.the-variants.{Repeated}
 use Rattle.laws.proofs.Steps.{over-mark}
 use Rattle.laws.proofs.Order.{order-repeated}
-use Rattle.laws.proofs.Points.{Sends, Offends, holding}
+use Rattle.laws.proofs.Points.{Sends, Offends}
 use Rattle.laws.proofs.Points.Offends.{packet-direction}
 use Rattle.laws.proofs.Points.Sends.{nothing, one-more}
 use Rattle.laws.proofs.Headed.{named-due}
@@ -54,7 +55,7 @@ module _ (place : Kind → State → ℕ) (collide : ℕ → ℕ → Bool) where
   -- ---- what is refused as 10 makes a pair
 
   -- a packet that collides meets one that stands before its NID_PACKET
-  collides-met : {es : List Entry} {c : Context} (b : List Entry) (n v : ℕ) → es ≡ b ++ (holding NID-PACKET n ∷ []) → Recalls es c
+  pub collides-met : {es : List Entry} {c : Context} (b : List Entry) (n v : ℕ) → es ≡ b ++ (holding NID-PACKET n ∷ []) → Recalls es c
       → collidesBy collide c v ≡ true → (n ≡ 44 → ⊥) × Met collide b n v
   collides-met {es} {c} b n v e r h =
       let i = r .identifies b n e in
@@ -150,12 +151,13 @@ pub record Finished (p : Terms) (whole : List Entry) : Type 0 where
   pub state : State
   pub value : ℕ
   pub sends : Sends p sent state
+  pub fits : Fits state value
   pub marks : step p state value ≡ over
   pub ends : whole ≡ sent ++ (entry state value ∷ [])
 
 -- a run from what was sent on ends in its end mark
 run-finished : {p : Terms} {es : List Entry} {s : State} {rest : List Entry} → Sends p es s → Run p s rest → Finished p (es ++ rest)
-run-finished {es = es} h (last {s = s} {v = v} f e) = record { sent = es; state = s; value = v; sends = h; marks = e; ends = refl }
+run-finished {es = es} h (last {s = s} {v = v} f e) = record { sent = es; state = s; value = v; sends = h; fits = f; marks = e; ends = refl }
 run-finished {p} {es} h (more {s = s} {v = v} {es = rest} f e r) =
     subst (Finished p) (append-assoc es (entry s v ∷ []) rest) (run-finished (one-more v h f e) r)
 

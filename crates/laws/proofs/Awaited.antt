@@ -5,6 +5,7 @@ use mathlib.Core.Path.{_≡_, refl, sym, ap, _∙_, subst}
 use Prim.Native.Nat.{ℕ}
 use native.Mathlib.Omega.{arith}
 use lib.Dec.{T}
+use Rattle.format.specs.Among.{holding, Inside}
 use Rattle.format.specs.Fields.{Field, NID-PACKET, NID-XUSER, Q-DIR, L-PACKET}
 use Rattle.format.specs.Fields.Rule.{direction}
 use Rattle.format.specs.Packets.{Items}
@@ -13,7 +14,6 @@ use Rattle.format.specs.Rules.{State, Context, Level, field, due, ruleOf}
 use Rattle.format.specs.Rules.Level.{inPacket, inUser}
 use Rattle.format.specs.Telegrams.{Entry}
 use Rattle.laws.proofs.Steps.{going}
-use Rattle.laws.proofs.Points.{holding, Inside}
 use Rattle.laws.proofs.Headed.{InHeader, InBody, ofHeader, ofBody, every-due}
 use Rattle.laws.proofs.Headed.Carried.{carrying, filled}
 use Rattle.laws.proofs.Standing.{Amid, Stands, apart}

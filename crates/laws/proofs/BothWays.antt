@@ -10,12 +10,13 @@ use borrow.Author.Tests.{eqb-true, eq-eqb}
 use lib.Dec.{eqb}
 use lib.ListN.{length}
 use Rattle.bits.specs.Bits.{Below}
+use Rattle.format.specs.Among.{PacketIn}
 use Rattle.format.specs.Rules.{clash, fieldPlace, paper}
 use Rattle.format.specs.Telegrams.{Entry, Result, read, write, Telegram}
 use Rattle.format.specs.Telegrams.Result.{accepted, refused}
 use Rattle.format.specs.declared.Refusal.{Refusal}
 use Rattle.laws.proofs.Demand2.{read-is, write-is}
-use Rattle.laws.proofs.Pairs.{PacketIn, Pair, Implies, packet-grown}
+use Rattle.laws.proofs.Pairs.{Pair, Implies, packet-grown}
 use Rattle.laws.proofs.Apart.{telegram-apart}
 use Rattle.laws.proofs.EachWay.{telegram-small}
 use Rattle.laws.proofs.Tens.{directing}

@@ -7,6 +7,7 @@ use Prim.Native.Nat.{ℕ, zero, suc, _≤_}
 use native.Mathlib.Omega.{arith}
 use borrow.Author.Tests.{eqb-true, eqb-false, eq-eqb, ne-eqb}
 use lib.Dec.{eqb}
+use Rattle.format.specs.Among.{holding, PacketIn}
 use Rattle.format.specs.Fields.{Field, NID-PACKET, Q-DIR, L-PACKET, END}
 use Rattle.format.specs.Packets.{Items}
 use Rattle.format.specs.Packets.Items.{end, send}
@@ -15,11 +16,11 @@ use Rattle.format.specs.Rules.Next.{go, over}
 use Rattle.format.specs.Telegrams.{Entry, entry, Run, Telegram}
 use Rattle.format.specs.Telegrams.Run.{last, more}
 use Rattle.laws.proofs.Steps.{go-next, over-mark}
-use Rattle.laws.proofs.Points.{holding, Sends}
+use Rattle.laws.proofs.Points.{Sends}
 use Rattle.laws.proofs.Points.Sends.{nothing, one-more}
 use Rattle.laws.proofs.Headed.{named-due, packet-headed}
 use Rattle.laws.proofs.Standing.{apart}
-use Rattle.laws.proofs.Pairs.{PacketIn, Newest, Order, serves, packet-newest, packets-ordered, not-empty}
+use Rattle.laws.proofs.Pairs.{Newest, Order, serves, packet-newest, packets-ordered, not-empty}
 use Rattle.laws.proofs.Pairs.Newest.{old, new}
 use Rattle.laws.proofs.Pairs.Order.{same, ahead, behind}
 use Rattle.laws.proofs.Awaited.{Awaits}

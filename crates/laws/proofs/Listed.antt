@@ -33,7 +33,7 @@ known-number f k =
 -- ---- the tables
 
 -- the fields that items can send, and then others
-abbrev sent : Items → List Field → List Field
+abbrev pub sent : Items → List Field → List Field
 sent end fs = fs
 sent nest fs = NID-XUSER ∷ fs
 sent (send f r) fs = f ∷ sent r fs
@@ -42,40 +42,48 @@ sent (sendEither c a b) fs = steers c ∷ sent a (sent b fs)
 sent (sendTimes c g r) fs = steers c ∷ sent g (sent r fs)
 
 -- those of all packets of a table
-abbrev sentBy : List Packet → List Field
+abbrev pub sentBy : List Packet → List Field
 sentBy [] = []
 sentBy (p ∷ ps) = sent (p .items) (sentBy ps)
 
--- that all are known, as one equation: the checker computes it for a whole table at once
-abbrev Same : List Field → Type 0
-Same fs = map (λ f. getD fields (f .number) END) fs ≡ fs
-
--- it holds of the header and of both tables
-tables-same : Same (sent header []) × (Same (sentBy etcs) × Same (sentBy ctcs))
-unfolding header etcs ctcs fields
-tables-same = (refl, (refl, refl))
-
--- the equation, taken apart: of the first field, and of the rest
-first-same : {f : Field} {fs : List Field} → Same (f ∷ fs) → Known f × Same fs
-first-same h = (cc, cc)
+-- that each is the field which a column of fields has at its number, as one equation: the checker computes it for a whole table at once
+abbrev pub Same : (ℕ → Field) → List Field → Type 0
+Same column fs = map (λ f. column (f .number)) fs ≡ fs
 
 -- a first part, and a second from what is left
 both : {A B C D : Type 0} → A × B → (B → C × D) → (A × C) × D
 both a g = let b = g (a .1) in ((a .0, b .0), b .1)
 
--- of items, and of the rest
-same-known : (t : Items) (fs : List Field) → Same (sent t fs) → Every Known t × Same fs
-same-known end fs h = (tt, h)
-same-known nest fs h = first-same h
-same-known (send f r) fs h = both (first-same h) (same-known r fs)
-same-known (sendIf c f r) fs h = both (first-same h) (λ i. both (first-same i) (same-known r fs))
-same-known (sendEither c a b) fs h = both (first-same h) (λ i. both (same-known a (sent b fs) i) (same-known b fs))
-same-known (sendTimes c g r) fs h = both (first-same h) (λ i. both (same-known g (sent r fs) i) (same-known r fs))
+-- what is true of each field that stands in the column at its number
+module _ (column : ℕ → Field) (P : Field → Type 0) (holds : (f : Field) → column (f .number) ≡ f → P f) where
+  -- the equation, taken apart: of the first field, and of the rest
+  first-same : {f : Field} {fs : List Field} → Same column (f ∷ fs) → P f × Same column fs
+  first-same {f} h = (holds f (cc), cc)
 
--- of every packet of a table
-table-known : (ps : List Packet) → Same (sentBy ps) → Throughout (Every Known) ps
-table-known [] h = tt
-table-known (p ∷ ps) h = let k = same-known (p .items) (sentBy ps) h in (k .0, table-known ps (k .1))
+  -- of items, and of the rest
+  pub same-every : (t : Items) (fs : List Field) → Same column (sent t fs) → Every P t × Same column fs
+  same-every end fs h = (tt, h)
+  same-every nest fs h = first-same h
+  same-every (send f r) fs h = both (first-same h) (same-every r fs)
+  same-every (sendIf c f r) fs h = both (first-same h) (λ i. both (first-same i) (same-every r fs))
+  same-every (sendEither c a b) fs h = both (first-same h) (λ i. both (same-every a (sent b fs) i) (same-every b fs))
+  same-every (sendTimes c g r) fs h = both (first-same h) (λ i. both (same-every g (sent r fs) i) (same-every r fs))
+
+  -- of every packet of a table
+  pub table-every : (ps : List Packet) → Same column (sentBy ps) → Throughout (Every P) ps
+  table-every [] h = tt
+  table-every (p ∷ ps) h = let k = same-every (p .items) (sentBy ps) h in (k .0, table-every ps (k .1))
+
+abbrev inList : ℕ → Field
+inList n = getD fields n END
+
+-- it holds of the header and of both tables
+tables-same : Same inList (sent header []) × (Same inList (sentBy etcs) × Same inList (sentBy ctcs))
+unfolding header etcs ctcs fields
+tables-same = (refl, (refl, refl))
+
+table-known : (ps : List Packet) → Same inList (sentBy ps) → Throughout (Every Known) ps
+table-known ps h = table-every inList Known (λ f e. e) ps h
 
 -- ---- a run
 
@@ -99,4 +107,4 @@ listed p k (more {s = s} {v = v} {t = t} {c = c} f e r) =
 -- and so of a telegram, which begins with the header
 pub telegram-listed : (p : Terms) {es : List Entry} → Telegram p es → AllKnown es
 unfolding begun
-telegram-listed p r = listed p (same-known header [] (tables-same .0) .0) r
+telegram-listed p r = listed p (same-every inList Known (λ f e. e) header [] (tables-same .0) .0) r

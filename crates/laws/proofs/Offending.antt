@@ -8,6 +8,7 @@ use Prim.Native.Nat.{ℕ, _+_, _-_}
 use native.Mathlib.Omega.{arith}
 use borrow.Author.Tests.{eqb-true, eqb-false}
 use lib.Dec.{T, eqb, leb}
+use Rattle.format.specs.Among.{Inside, sizeAt}
 use Rattle.format.specs.Fields.{Field, Rule, NID-PACKET, NID-XUSER, Q-DIR}
 use Rattle.format.specs.Fields.Rule.{any, packet, user, direction, size, pig, total, radio, within}
 use Rattle.format.specs.Packets.{Items, find, etcs, ctcs}
@@ -19,7 +20,7 @@ use Rattle.format.specs.declared.Kind.{Kind}
 use Rattle.format.specs.declared.Kind.the-variants.{Unknown, Value, Length, Direction, Repeated}
 use Rattle.laws.proofs.Steps.{going}
 use Rattle.laws.proofs.Tile.{bitCount-append}
-use Rattle.laws.proofs.Points.{Inside, sizeAt, Wrong, Offends}
+use Rattle.laws.proofs.Points.{Wrong, Offends}
 use Rattle.laws.proofs.Points.Offends.{in-header, packet-name, user-name, in-packet, in-user, user-direction, packet-direction}
 use Rattle.laws.proofs.Points.Wrong.{alone, inner, outer}
 use Rattle.laws.proofs.Points as points

@@ -3,6 +3,7 @@ use mathlib.Core.List.{List, [], _∷_, _++_, append-assoc, append-nil}
 use mathlib.Core.Path.{_≡_, refl, sym, ap, _∙_}
 use Prim.Native.Nat.{ℕ}
 use native.Mathlib.Omega.{arith}
+use Rattle.format.specs.Among.{holding, Without, Inside, sizeAt, Fitting, Misfitting}
 use Rattle.format.specs.Fields.{Field, NID-PACKET, NID-XUSER, Q-DIR, L-PACKET}
 use Rattle.format.specs.Packets.{Items}
 use Rattle.format.specs.Rules.{State, Context, Terms, Level, begun, step, moved}
@@ -14,7 +15,7 @@ use Rattle.format.specs.declared.Refusal.{Refusal}
 use Rattle.laws.proofs.Sources.{Source, Sent, Listed, from-bits, from-values}
 use Rattle.laws.proofs.Round.{all-append}
 use Rattle.laws.proofs.Tile.{bitCount-append}
-use Rattle.laws.proofs.Points.{Sends, holding, Without, Inside, sizeAt, Fitting, Misfitting, within, Wrong, Offends, Points, Pointed}
+use Rattle.laws.proofs.Points.{Sends, within, Wrong, Offends, Points, Pointed}
 use Rattle.laws.proofs.Points.Sends.{nothing, one-more}
 use Rattle.laws.proofs.Points.Wrong.{alone, inner, outer}
 use Rattle.laws.proofs.Points.Points.{lacking, breaking, sizing, trailing}
@@ -23,7 +24,7 @@ use Rattle.laws.proofs.Standing.{apart}
 -- ---- one last packet
 
 -- where none of the entries is of a field, none can be found
-not-among : (f : Field) (es : List Entry) (e : Entry) (fs : List Entry) → Without f (es ++ e ∷ fs) → e .field ≡ f → ⊥
+pub not-among : (f : Field) (es : List Entry) (e : Entry) (fs : List Entry) → Without f (es ++ e ∷ fs) → e .field ≡ f → ⊥
 not-among f [] e fs w = w .0
 not-among f (d ∷ es) e fs w = not-among f es e fs (w .1)
 
@@ -44,18 +45,18 @@ one-last f (x ∷ b) (y ∷ c) v u m n wm wn i =
     (cc (e, h .0), h .1)
 
 -- neither Q_DIR nor L_PACKET is an identifier
-abbrev Other : Field → Type 0
+abbrev pub Other : Field → Type 0
 Other id = (Q-DIR ≡ id → ⊥) × (L-PACKET ≡ id → ⊥)
 
-packet-other : Other NID-PACKET
+pub packet-other : Other NID-PACKET
 packet-other = (apart Q-DIR NID-PACKET refl, apart L-PACKET NID-PACKET refl)
 
-user-other : Other NID-XUSER
+pub user-other : Other NID-XUSER
 user-other = (apart Q-DIR NID-XUSER refl, apart L-PACKET NID-XUSER refl)
 
 -- So the entries end inside one packet of a sort: its L_PACKET stands at one place, and is not both right and wrong.
 module _ {id : Field} (other : Other id) {es : List Entry} (h k : Inside id es) where
-  one-packet : (h .before ≡ k .before)
+  pub one-packet : (h .before ≡ k .before)
       × (holding id (h .name) ∷ holding Q-DIR (h .dir) ∷ holding L-PACKET (h .size) ∷ h .after
       ≡ holding id (k .name) ∷ holding Q-DIR (k .dir) ∷ holding L-PACKET (k .size) ∷ k .after)
   one-packet =

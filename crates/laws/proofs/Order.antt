@@ -50,7 +50,7 @@ module _ (p : Terms) (s : State) where
   unfolding drive fromValues
   order-full k v vs h g = rw (lt-ltb v (2 ^ field s .width) h, lt-leb (past s) 830 g)
 
-unless-is : (b : Bool) (k j : Kind) → unless b k ≡ some j → (b ≡ false) × (k ≡ j)
+pub unless-is : (b : Bool) (k j : Kind) → unless b k ≡ some j → (b ≡ false) × (k ≡ j)
 unless-is true k j h = (cc, cc)
 unless-is false k j h = (refl, cc)
 

@@ -6,18 +6,12 @@ use mathlib.Core.Path.{_≡_, refl, sym, ap, _∙_}
 use Prim.Native.Nat.{ℕ}
 use native.Mathlib.Omega.{arith}
 use lib.Dec.{eqb}
+use Rattle.format.specs.Among.{holding, PacketIn}
 use Rattle.format.specs.Fields.{NID-PACKET, Q-DIR}
 use Rattle.format.specs.Telegrams.{Entry, bitCount}
-use Rattle.laws.proofs.Points.{holding}
 use Rattle.laws.proofs.Standing.{apart}
 
 -- ---- packets, and pairs of them
-
--- a packet among entries: what stands before it, its NID_PACKET and Q_DIR, and what stands behind them
-pub record PacketIn (es : List Entry) (id dir : ℕ) : Type 0 where
-  pub before : List Entry
-  pub after : List Entry
-  pub parts : es ≡ before ++ holding NID-PACKET id ∷ holding Q-DIR dir ∷ after
 
 -- a packet of this kind among entries, whose direction collides with this one
 pub record Met (collide : ℕ → ℕ → Bool) (es : List Entry) (id dir : ℕ) : Type 0 where

@@ -9,6 +9,7 @@ use Prim.Native.Nat.{ℕ}
 use native.Mathlib.Omega.{arith}
 use borrow.Author.Tests.{eqb-true, eq-eqb}
 use lib.Dec.{eqb}
+use Rattle.format.specs.Among.{holding}
 use Rattle.format.specs.Fields.{NID-PACKET, Q-DIR, END}
 use Rattle.format.specs.Packets.{Items}
 use Rattle.format.specs.Packets.Items.{end}
@@ -19,7 +20,7 @@ use Rattle.format.specs.Telegrams.{Entry, entry}
 use Rattle.laws.proofs.Steps.{going-on, Stepped, stepped}
 use Rattle.laws.proofs.Steps.Settled.{on, closed, misfitted}
 use Rattle.laws.proofs.Steps.Stepped.{forbidden, marked, noticed}
-use Rattle.laws.proofs.Points.{Sends, holding}
+use Rattle.laws.proofs.Points.{Sends}
 use Rattle.laws.proofs.Points.Sends.{nothing, one-more}
 use Rattle.laws.proofs.Headed.{named-due, packet-headed}
 use Rattle.laws.proofs.Noted.{direction-in-packet, packet-noted, kept}

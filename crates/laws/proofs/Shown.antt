@@ -11,6 +11,7 @@ use lib.Seq.{take-at, drop-at}
 use Rattle.bits.specs.Bits.{Below}
 use Rattle.bits.proofs.Digits.{length-digits}
 use Rattle.bits.proofs.Bytes.{below-drop}
+use Rattle.format.specs.Among.{holding, Inside, sizeAt}
 use Rattle.format.specs.Fields.{Field, Q-DIR, L-PACKET}
 use Rattle.format.specs.Rules.{State, Terms, Level, field}
 use Rattle.format.specs.Telegrams.{Entry, entry, gotIf, fromBits, bitsIn, bits, bitCount}
@@ -21,7 +22,7 @@ use Rattle.format.specs.declared.Refusal.{Refusal}
 use Rattle.laws.proofs.Sources.{Sent, from-bits}
 use Rattle.laws.proofs.Round.{all-append}
 use Rattle.laws.proofs.Demand2.{length-bits}
-use Rattle.laws.proofs.Points.{Sends, holding, Inside, sizeAt, within, Wrong, wrongSize, Points, Pointed}
+use Rattle.laws.proofs.Points.{Sends, within, Wrong, wrongSize, Points, Pointed}
 use Rattle.laws.proofs.Points.Wrong.{alone, inner, outer}
 use Rattle.laws.proofs.Points.Points.{lacking, breaking, sizing, trailing}
 use Rattle.laws.proofs.Pointed.{sends-at, one-front}

@@ -6,6 +6,7 @@ use mathlib.Core.Path.{_≡_, refl, sym, ap, _∙_, subst}
 use Prim.Native.Nat.{ℕ, _+_, _-_, _<_}
 use native.Mathlib.Omega.{arith}
 use lib.Dec.{T, eqb}
+use Rattle.format.specs.Among.{holding}
 use Rattle.format.specs.Fields.{Field, NID-PACKET, Q-DIR, L-PACKET}
 use Rattle.format.specs.Fields.Rule.{packet, direction, size, pig}
 use Rattle.format.specs.Packets.{Items, header}
@@ -18,7 +19,7 @@ use Rattle.laws.proofs.Steps.{going, going-on, Stepped, stepped}
 use Rattle.laws.proofs.Steps.Settled.{on, closed, misfitted}
 use Rattle.laws.proofs.Steps.Stepped.{forbidden, marked, noticed}
 use Rattle.laws.proofs.Tile.{bitCount-append, bits-more, values-more, sent-next, header-plain}
-use Rattle.laws.proofs.Points.{Sends, holding}
+use Rattle.laws.proofs.Points.{Sends}
 use Rattle.laws.proofs.Points.Sends.{nothing, one-more}
 use Rattle.laws.proofs.Headed.{Headed, InHeader, every-due, withHead, outerBody, packet-headed}
 use Rattle.laws.proofs.Noted.{direction-in-packet, size-in-packet, packet-noted, header-noted, kept}

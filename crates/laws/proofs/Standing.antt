@@ -8,6 +8,7 @@ use Prim.Native.Nat.{ℕ, _+_}
 use native.Mathlib.Omega.{arith}
 use borrow.Author.Tests.{eqb-false, ne-eqb}
 use lib.Dec.{T, eqb}
+use Rattle.format.specs.Among.{holding, Without, Inside}
 use Rattle.format.specs.Fields.{Field, NID-PACKET, NID-XUSER, Q-DIR, L-PACKET}
 use Rattle.format.specs.Fields.Rule.{packet}
 use Rattle.format.specs.Packets.{Items, find, etcs, ctcs}
@@ -19,7 +20,6 @@ use Rattle.format.specs.declared.Kind.the-variants.{Length, Unknown}
 use Rattle.laws.proofs.Steps.{going, going-on}
 use Rattle.laws.proofs.Tile.{bitCount-append}
 use Rattle.laws.proofs.Every.{Every}
-use Rattle.laws.proofs.Points.{holding, Without, Inside}
 use Rattle.laws.proofs.Headed.{InHeader, InBody, every-sent, every-due, every-on, outerBody, innerBody, packet-headed, user-headed, Carried, outer-body, inner-body}
 use Rattle.laws.proofs.Headed.Carried.{carrying, filled}
 use Rattle.laws.proofs.Noted.{direction-in-packet, size-in-packet, direction-in-user, size-in-user, user-noted, packet-noted, body-noted, header-noted, header-place, packet-place}

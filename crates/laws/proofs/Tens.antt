@@ -9,6 +9,7 @@ use Prim.Native.Nat.{ℕ, _+_, _≤_}
 use native.Mathlib.Omega.{arith}
 use lib.ListN.{length}
 use Rattle.bits.specs.Bits.{Below}
+use Rattle.format.specs.Among.{holding, PacketIn}
 use Rattle.format.specs.Fields.{NID-PACKET, Q-DIR}
 use Rattle.format.specs.Rules.{State, Terms, step, field, ruleOf, broken, collidesBy, fieldPlace}
 use Rattle.format.specs.Rules.Next.{breaks}
@@ -18,11 +19,11 @@ use Rattle.format.specs.Telegrams.Taken.{got}
 use Rattle.format.specs.declared.Kind.the-variants.{Repeated}
 use Rattle.format.specs.declared.Refusal.{Refusal}
 use Rattle.laws.proofs.Order.{order-broken, order-repeated}
-use Rattle.laws.proofs.Points.{holding, Sends, Missing, Points, Pointed}
+use Rattle.laws.proofs.Points.{Sends, Missing, Points, Pointed}
 use Rattle.laws.proofs.Points.Points.{lacking, breaking, sizing, trailing}
 use Rattle.laws.proofs.Offending.{offends}
 use Rattle.laws.proofs.JustPointed.{read-refuses, write-refuses}
-use Rattle.laws.proofs.Pairs.{PacketIn, Met, Pair, laterAt, Order, one-end, pair-grown, packets-ordered}
+use Rattle.laws.proofs.Pairs.{Met, Pair, laterAt, Order, one-end, pair-grown, packets-ordered}
 use Rattle.laws.proofs.Pairs.Order.{same, ahead, behind}
 use Rattle.laws.proofs.Recalled.{sends-stands}
 use Rattle.laws.proofs.Apart.{ruled, NewPair, new-pair-at, repeated-pair, repeated-small, pair-collides, new-first}

@@ -6,6 +6,7 @@ use mathlib.Core.Path.{_≡_}
 use Prim.Native.Nat.{ℕ, zero, suc, _+_, _<_}
 use lib.Dec.{T}
 use lib.ListN.{length}
+use Rattle.format.specs.Among.{holding}
 use Rattle.format.specs.Fields.{NID-PACKET, Q-DIR, L-PACKET}
 use Rattle.format.specs.Packets.{Items}
 use Rattle.format.specs.Packets.Items.{end, nest, send, sendIf, sendEither, sendTimes}
@@ -14,7 +15,6 @@ use Rattle.format.specs.Rules.Level.{inHeader, inPacket}
 use Rattle.format.specs.Telegrams.{Entry, bitCount, values}
 use Rattle.laws.proofs.Steps.{going}
 use Rattle.laws.proofs.Tile.{Plain, widths}
-use Rattle.laws.proofs.Points.{holding}
 use Rattle.laws.proofs.Headed.{withHead}
 
 -- ---- whole packets

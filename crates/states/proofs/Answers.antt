@@ -51,7 +51,7 @@ module _ (Right : List Entry → Type 0) (Wrong : Refusal → Type 0) where
   one-of (accepted es) a b = inl (es, a es refl)
   one-of (refused r) a b = inr (r, b r refl)
 
-  judges : (answer : Result) → ((es : List Entry) → (answer ≡ accepted es) ↔ Right es) → ((r : Refusal) → (answer ≡ refused r) ↔ Wrong r)
+  pub judges : (answer : Result) → ((es : List Entry) → (answer ≡ accepted es) ↔ Right es) → ((r : Refusal) → (answer ≡ refused r) ↔ Wrong r)
       → Judges Right Wrong answer
   judges answer a b =
       record {

@@ -14,6 +14,7 @@ use Rattle.bits.specs.declared.Taken.the-variants.{Field}
 use Rattle.bits.proofs.Bytes.{length-bitsOf}
 use Rattle.bits.proofs.Digits.{length-digits, valueOf-append, valueOf-digits}
 use Rattle.bits.proofs.Fields.{take-whole, take-past}
+use Rattle.format.specs.Among.{holding}
 use Rattle.format.specs.Fields.{NID-PACKET}
 use Rattle.format.specs.Fields.Rule.{direction}
 use Rattle.format.specs.Rules.{Earlier, ruleOf, clash, collidesAmong, collidesBy}
@@ -21,7 +22,6 @@ use Rattle.format.specs.Telegrams.{Entry, bits, bitsIn, bitCount}
 use Rattle.laws.proofs.Demand2.{length-bits}
 use Rattle.laws.proofs.Round.{all-append}
 use Rattle.laws.proofs.Tile.{bitCount-append}
-use Rattle.laws.proofs.Points.{holding}
 use Rattle.laws.proofs.Stages.{sends-directs}
 use Rattle.laws.proofs.Whole.{Whole, headed}
 use Rattle.laws.proofs.Whole.Whole.{front, then}

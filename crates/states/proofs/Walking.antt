@@ -11,6 +11,7 @@ use borrow.Author.Tests.{eq-eqb, ne-eqb}
 use lib.Dec.{eqb, T}
 use lib.ListN.{length, take, drop, getD, length-drop}
 use lib.Seq.{drop-at, drop-cons, getD-take, length-take-le, take-at}
+use Rattle.format.specs.Among.{holding}
 use Rattle.format.specs.Fields.{NID-PACKET, Q-DIR, L-PACKET}
 use Rattle.format.specs.Fields.Rule.{direction}
 use Rattle.format.specs.Packets.{Items}
@@ -18,7 +19,6 @@ use Rattle.format.specs.Packets.Items.{end, nest, send, sendIf, sendEither, sen
 use Rattle.format.specs.Rules.{Earlier, next, ruleOf, clash, among, collidesAmong, collidesBy}
 use Rattle.format.specs.Table.{act, rowAt}
 use Rattle.format.specs.Telegrams.{Entry, values, valuesIn}
-use Rattle.laws.proofs.Points.{holding}
 use Rattle.laws.proofs.Recalled.{among-none, among-more}
 use Rattle.laws.proofs.Round.{all-append}
 use Rattle.laws.proofs.Stages.{sends-directs}
