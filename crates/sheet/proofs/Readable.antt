@@ -45,7 +45,7 @@ module _ (v : ℕ) where
       by true q here ih = rw (eqb-true j k q) here
       by false q here ih = ih (lt-of-le-ne (omega arith) (eqb-false j k q))
 
-placed-all : (k n : ℕ) → ((j : ℕ) → j < k → Lettered (n / 16 ^ j % 16)) → Placed k n
+pub placed-all : (k n : ℕ) → ((j : ℕ) → j < k → Lettered (n / 16 ^ j % 16)) → Placed k n
 placed-all zero n f = tt
 placed-all (suc k) n f = (
   subst (λ (x : ℕ). Lettered (x % 16)) (omega arith) (f 0 (omega arith)),

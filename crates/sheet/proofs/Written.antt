@@ -71,7 +71,7 @@ module _ (k v : ℕ) (h : k < 72) (small : v < 2 ^ 64) (placed : isRadio (fieldO
 
 -- ---- an entry that can be read, and all of them
 
-entry-is : (e : Entry) → Readable e → entryOf (e .field .number) (e .value) ≡ e
+pub entry-is : (e : Entry) → Readable e → entryOf (e .field .number) (e .value) ≡ e
 entry-is e r = ap (λ (f : Field). record { field = f; value = e .value }) (r .known)
 
 rows-none : (left n : ℕ) → rowsIn left n [] ≡ rows []
@@ -80,7 +80,7 @@ rows-none zero n = refl
 rows-none (suc left) n = refl
 
 -- a readable entry's row, and then the rest
-row-then : (e : Entry) (left n : ℕ) (rest : List ℕ) → Readable e
+pub row-then : (e : Entry) (left n : ℕ) (rest : List ℕ) → Readable e
     → rowsIn (suc left) n (rowText e ++ rest) ≡ above e (rowsIn left (suc n) rest)
 row-then e left n rest r =
     let k = known-number (e .field) (r .known) in

@@ -1,0 +1,40 @@
+-- Worked claims: rows that are refused by 20, each by what the checker computes of its text. Assumes nothing.
+use mathlib.Core.Path.{refl}
+use mathlib.Core.List.{List, [], _++_}
+use Prim.Native.Nat.{ℕ}
+use Rattle.pieces.specs.Pieces.{begins}
+use Rattle.pieces.specs.Numbers.{digitsOf, decimalIn, digitsFrom, sixteenIn, placesFrom}
+use Rattle.format.specs.Fields.{fields}
+use Rattle.format.specs.Packets.{_⧺_, times, header, etcs, ctcs, find}
+use Rattle.format.specs.Rules.{begun, next, misdirected, broken, noted, closes, settled, onward, step, radioFrom, spotOf, spotAt, placeFrom, fieldPlace, clash, among, collidesBy}
+use Rattle.format.specs.Telegrams.{write, fromValues, drive, valuesIn}
+use Rattle.states.specs.Labels.{numbersIn}
+use Rattle.sheet.specs.Rows.{textOf, crlf, heading, labelText}
+use Rattle.sheet.specs.Reading.{rowIn, rowsIn, sheetIn}
+use Rattle.sheet.specs.Sheets.{imported}
+use Rattle.entrances.specs.Rows.{RowGiven}
+use Rattle.entrances.proofs.Rows.{imported-row}
+
+abbrev line : List ℕ → List ℕ → List ℕ
+line text rest = text ++ crlf ++ rest
+
+-- a header and the end mark, with this row in the place of the first and this one in the place of the last
+abbrev sheetWith : List ℕ → List ℕ → List ℕ
+sheetWith first end =
+    heading ++ line first (line (textOf "M_VERSION,7,16") (line (textOf "Q_MEDIA,1,0") (line (textOf "N_PIG,3,1") (line (textOf "N_TOTAL,3,2")
+    (line (textOf "M_DUP,2,0") (line (textOf "M_MCOUNT,8,30") (line (textOf "NID_C,10,21") (line (textOf "NID_BG,14,4100") (line (textOf "Q_LINK,1,0")
+    (line end []))))))))))
+
+-- no header
+none-there : RowGiven [] 0
+unfolding imported sheetIn heading begins
+none-there = imported-row [] 0 .0 refl
+
+-- another name in the first row, and a zero too many in the last: the last, which is no row; without it the first
+needless-zero : RowGiven (sheetWith (textOf "Q_LINK,1,1") (textOf "END,8,0255")) 11
+unfolding imported sheetIn heading begins rowsIn rowIn fields labelText decimalIn digitsFrom digitsOf sixteenIn placesFrom
+needless-zero = imported-row (sheetWith (textOf "Q_LINK,1,1") (textOf "END,8,0255")) 11 .0 refl
+
+another-name : RowGiven (sheetWith (textOf "Q_LINK,1,1") (textOf "END,8,255")) 1
+unfolding imported sheetIn heading begins rowsIn rowIn fields labelText decimalIn digitsFrom digitsOf sixteenIn placesFrom write drive begun fromValues step next find etcs ctcs header times _⧺_ broken misdirected noted settled onward closes radioFrom spotOf spotAt placeFrom fieldPlace collidesBy among clash valuesIn numbersIn
+another-name = imported-row (sheetWith (textOf "Q_LINK,1,1") (textOf "END,8,255")) 1 .0 refl

@@ -1,0 +1,3 @@
+-- Which refusal each entry point gives, in reading order.
+pub mod Entrances
+pub mod Rows
