@@ -8,4 +8,5 @@ pub mod Sheets
 pub mod Names
 pub mod Rows
 pub mod Replying
+pub mod RoundTrips
 pub mod Worked
