@@ -1,11 +1,12 @@
 -- What the context and the items that are left say of the entries that were sent: the Q_DIR of the packet in hand, that no CTCS packet was begun in it,
 -- N_PIG right before N_TOTAL, and which fields can be due. Assumes nothing.
+use mathlib.Core.Bool.{false}
 use mathlib.Core.List.{List, [], _∷_, _++_, append-assoc}
 use mathlib.Core.Option.{some}
 use mathlib.Core.Path.{_≡_, refl, sym, ap, _∙_, subst}
 use Prim.Native.Nat.{ℕ}
 use native.Mathlib.Omega.{arith}
-use lib.Dec.{T}
+use lib.Dec.{T, eqb}
 use Rattle.format.specs.Among.{holding, Without, Inside}
 use Rattle.format.specs.Fields.{Field, N-PIG, N-TOTAL, NID-PACKET, NID-XUSER, Q-DIR, L-PACKET}
 use Rattle.format.specs.Fields.Rule.{pig}
@@ -59,15 +60,23 @@ levels-front i j = let z : _≡_ {A = ℕ} 0 1 = cc in absurd (omega arith)
 -- entries that end in a Q_DIR right behind a NID_PACKET
 ends-directed : (es b : List Entry) (e : Entry) (i d : ℕ) → es ++ (e ∷ []) ≡ b ++ (holding NID-PACKET i ∷ holding Q-DIR d ∷ [])
     → (es ≡ b ++ (holding NID-PACKET i ∷ [])) × (e ≡ holding Q-DIR d)
-ends-directed es b e i d h = one-end es (b ++ (holding NID-PACKET i ∷ [])) e (holding Q-DIR d) (h ∙ sym (append-assoc b (holding NID-PACKET i ∷ []) (holding Q-DIR d ∷ [])))
+ends-directed es b e i d h =
+    one-end es (b ++ (holding NID-PACKET i ∷ [])) e (holding Q-DIR d)
+    (h ∙ sym (append-assoc b (holding NID-PACKET i ∷ []) (holding Q-DIR d ∷ [])))
 
 module _ (es : List Entry) (e : Entry) (c d : Context) where
   -- a field that leaves the Q_DIR as it was
   told-kept : Told es c → d .dir ≡ c .dir → (e .field ≡ Q-DIR → (b : List Entry) (i : ℕ) → es ≡ b ++ (holding NID-PACKET i ∷ []) → ⊥)
-      → (d .level ≡ inPacket → (c .level ≡ inPacket) × (e .field ≡ NID-XUSER → ⊥)) → (d .level ≡ inHeader → (c .level ≡ inHeader) × (e .field ≡ L-PACKET → ⊥))
+      → (d .level ≡ inPacket → (c .level ≡ inPacket) × (e .field ≡ NID-XUSER → ⊥))
+      → (d .level ≡ inHeader → (c .level ≡ inHeader) × (e .field ≡ L-PACKET → ⊥))
       → Told (es ++ (e ∷ [])) d
   told-kept h k undirected plain front =
-      record { directed = λ b i x j. absurd (never b i x j); dir = λ o. by-dir o (grown NID-PACKET es e o); plain = λ l o. by-plain l o (grown NID-PACKET es e o); front = λ l o. by-front l o (grown NID-PACKET es e o) }
+      record {
+        directed = λ b i x j. absurd (never b i x j);
+        dir = λ o. by-dir o (grown NID-PACKET es e o);
+        plain = λ l o. by-plain l o (grown NID-PACKET es e o);
+        front = λ l o. by-front l o (grown NID-PACKET es e o);
+      }
     where
       never : (b : List Entry) (i x : ℕ) → es ++ (e ∷ []) ≡ b ++ (holding NID-PACKET i ∷ holding Q-DIR x ∷ []) → ⊥
       never b i x j = let q = ends-directed es b e i x j in undirected (ap (λ (y : Entry). y .field) (q .1)) b i (q .0)
@@ -85,7 +94,8 @@ module _ (es : List Entry) (e : Entry) (c d : Context) where
       by-front l o (new i j m) = front l .1 (ap (λ (y : Entry). y .field) i)
 
   -- entries that do not end inside a packet
-  told-none : (Inside NID-PACKET (es ++ (e ∷ [])) → ⊥) → ((b : List Entry) (i x : ℕ) → es ++ (e ∷ []) ≡ b ++ (holding NID-PACKET i ∷ holding Q-DIR x ∷ []) → d .dir ≡ x)
+  told-none : (Inside NID-PACKET (es ++ (e ∷ [])) → ⊥)
+      → ((b : List Entry) (i x : ℕ) → es ++ (e ∷ []) ≡ b ++ (holding NID-PACKET i ∷ holding Q-DIR x ∷ []) → d .dir ≡ x)
       → Told (es ++ (e ∷ [])) d
   told-none n k = record { directed = k; dir = λ o. absurd (n o); plain = λ l o. absurd (n o); front = λ l o. n o }
 
@@ -108,7 +118,8 @@ module _ (at v : ℕ) (c : Context) (u : Items) where
       told-none es (holding (named t v) v) c _ (λ o. h .front l (was-in o (grown NID-PACKET es _ o) fe))
       (λ b i x j. absurd (header-apart (named t v) Q-DIR fe (λ z. z) (ap (λ (y : Entry). y .field) (ends-directed es b _ i x j .1))))
     where
-      was-in : (o : Inside NID-PACKET (es ++ (holding (named t v) v ∷ []))) → Grown NID-PACKET es (holding (named t v) v) o → InHeader (named t v) → Inside NID-PACKET es
+      was-in : (o : Inside NID-PACKET (es ++ (holding (named t v) v ∷ []))) → Grown NID-PACKET es (holding (named t v) v) o → InHeader (named t v)
+          → Inside NID-PACKET es
       was-in o (was q i j) f = q
       was-in o (new i j m) f = absurd (header-apart (named t v) L-PACKET f (λ z. z) (ap (λ (y : Entry). y .field) i))
   amid-told {es} t g (amid-packet l (identified b n i x q)) h =
@@ -150,7 +161,8 @@ module _ (at v : ℕ) (c : Context) (u : Items) where
       told-none es (holding NID-PACKET v) c _ (inside-name NID-PACKET (apart L-PACKET NID-PACKET refl) es v)
       (λ b i x j. absurd (apart NID-PACKET Q-DIR refl (ap (λ (y : Entry). y .field) (ends-directed es b _ i x j .1))))
 
-pub told-next : (p : Terms) (es : List Entry) (s : State) (v : ℕ) (u : Items) → Stands es s → (T (going (s .todo)) → Told es (s .context)) → next (s .todo) v ≡ some u
+pub told-next : (p : Terms) (es : List Entry) (s : State) (v : ℕ) (u : Items) → Stands es s → (T (going (s .todo)) → Told es (s .context))
+    → next (s .todo) v ≡ some u
     → Told (es ++ (entry s v ∷ [])) (noted (ruleOf (field s .sense)) (s .context) (s .at) v)
 unfolding next
 told-next p es s v u (between i l x) h j = rw (i, mark-apart p (s .context) (s .at) v u (rw i at j)) (between-told (s .at) v (s .context) u es)
@@ -189,20 +201,20 @@ Follows (sendIf c f r) = ⊥
 Follows (sendEither c a b) = ⊥
 Follows (sendTimes c g r) = ⊥
 
+not-total : (f : Field) → eqb (f .number) (N-TOTAL .number) ≡ false → {A : Type 0} → f ≡ N-TOTAL → A
+not-total f n e = absurd (apart f N-TOTAL n e)
+
 header-follows : Follows header
 unfolding header
 header-follows = (
-  λ e. absurd (apart _ N-TOTAL refl e),
+  not-total _ refl,
   (
-    λ e. absurd (apart _ N-TOTAL refl e),
+    not-total _ refl,
     (
-      λ e. absurd (apart _ N-TOTAL refl e),
+      not-total _ refl,
       (
         λ e. refl,
-        (
-          λ e. absurd (apart _ N-TOTAL refl e),
-          (λ e. absurd (apart _ N-TOTAL refl e), (λ e. absurd (apart _ N-TOTAL refl e), (λ e. absurd (apart _ N-TOTAL refl e), (λ e. absurd (apart _ N-TOTAL refl e), (λ e. absurd (apart _ N-TOTAL refl e), tt))))),
-        ),
+        (not-total _ refl, (not-total _ refl, (not-total _ refl, (not-total _ refl, (not-total _ refl, (not-total _ refl, tt)))))),
       ),
     ),
   ),
@@ -224,7 +236,8 @@ pub record Pig (es : List Entry) (c : Context) : Type 0 where
 
 -- in the header its fields are left, and where N_TOTAL is due N_PIG was sent; behind it those of the packets
 pub data Sorted (es : List Entry) (s : State) : Type 0 where
-  of-header : s .context .level ≡ inHeader → T (going (s .todo)) → Every HeaderField (s .todo) → Follows (s .todo) → (field s ≡ N-TOTAL → Pig es (s .context)) → Sorted es s
+  of-header : s .context .level ≡ inHeader → T (going (s .todo)) → Every HeaderField (s .todo) → Follows (s .todo)
+      → (field s ≡ N-TOTAL → Pig es (s .context)) → Sorted es s
   of-packets : (s .context .level ≡ inHeader → ⊥) → Every Sort (s .todo) → Sorted es s
 
 header-rule : {f : Field} → HeaderField f → T (ofHeader (ruleOf (f .sense)))
@@ -259,7 +272,10 @@ module _ (p : Terms) (es : List Entry) (s : State) (v : ℕ) (st : Stands es s) 
   level-next n = by-stand st
     where
       by-stand : Stands es s → left .level ≡ inHeader → ⊥
-      by-stand (between i l x) e = let q : noted (ruleOf (NID-PACKET .sense)) (s .context) (s .at) v .level ≡ inHeader = rw i at e in let z : _≡_ {A = ℕ} 0 1 = cc (packet-noted (s .context) (s .at) v) in omega arith
+      by-stand (between i l x) e =
+          let q : noted (ruleOf (NID-PACKET .sense)) (s .context) (s .at) v .level ≡ inHeader = rw i at e in
+          let z : _≡_ {A = ℕ} 0 1 = cc (packet-noted (s .context) (s .at) v) in
+          omega arith
       by-stand (amid g a) e = amid-level (s .context) (s .at) v (s .todo) g n a e
 
   sorted-on : (u : Items) → T (going u) → next (s .todo) v ≡ some u → Sorted es s → Sorted more (moved s u left)

@@ -57,7 +57,8 @@ found-other [] h i t e = let z : _≡_ {A = ℕ} 0 1 = cc in absurd (omega arith
 found-other (p ∷ ps) h i t e =
     by-test (eqb i (p .id)) refl e (λ j. found-other ps (and-right (eqb (p .id) 44 || passes Unnested (p .items)) (others ps) h) i t j)
   where
-    by-test : (b : Bool) → eqb i (p .id) ≡ b → cond b (some (p .items)) (find i ps) ≡ some t → (find i ps ≡ some t → (i ≡ 44) ⊎ Every Q t) → (i ≡ 44) ⊎ Every Q t
+    by-test : (b : Bool) → eqb i (p .id) ≡ b → cond b (some (p .items)) (find i ps) ≡ some t → (find i ps ≡ some t → (i ≡ 44) ⊎ Every Q t)
+        → (i ≡ 44) ⊎ Every Q t
     by-test true q j ih =
         let k : p .items ≡ t = cc in
         rw (← k) (by-or i p (eqb (p .id) 44) refl (eqb-true i (p .id) q) (and-left (eqb (p .id) 44 || passes Unnested (p .items)) (others ps) h))
@@ -93,8 +94,9 @@ not-ending b c body i d n x w e = by-last (snoc body) refl w
   where
     by-last : {l : List Entry} → Snoc l → body ≡ l → Without NID-XUSER l → ⊥
     by-last empty j q =
-        let k = sym (ap (λ (l : List Entry). b ++ headed i d n l) j ∙ sym (append-assoc b (holding NID-PACKET i ∷ holding Q-DIR d ∷ []) (holding L-PACKET n ∷ []))) in
-        apart L-PACKET NID-XUSER refl (ap (λ (y : Entry). y .field) (one-end (b ++ (holding NID-PACKET i ∷ holding Q-DIR d ∷ [])) c (holding L-PACKET n) (holding NID-XUSER x) (k ∙ e) .1))
+        let front : List Entry = holding NID-PACKET i ∷ holding Q-DIR d ∷ [] in
+        let k = sym (ap (λ (l : List Entry). b ++ headed i d n l) j ∙ sym (append-assoc b front (holding L-PACKET n ∷ []))) in
+        apart L-PACKET NID-XUSER refl (ap (λ (y : Entry). y .field) (one-end (b ++ front) c (holding L-PACKET n) (holding NID-XUSER x) (k ∙ e) .1))
     by-last (last a y) j q =
         let k = sym (ap (λ (l : List Entry). b ++ headed i d n l) j ∙ sym (append-assoc b (headed i d n a) (y ∷ []))) in
         not-among NID-XUSER a y [] q (ap (λ (z : Entry). z .field) (one-end (b ++ headed i d n a) c y (holding NID-XUSER x) (k ∙ e) .1))

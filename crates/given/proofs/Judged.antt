@@ -109,7 +109,8 @@ module _ (es : List Entry) (c : Context) (v : ℕ) where
   judge f = broken paper c (ruleOf (f .sense)) v
 
   -- 4
-  pub header-sound : (f : Field) → HeaderField f → (f ≡ N-TOTAL → Pig es c) → c .level ≡ inHeader → (k : Kind) → judge f ≡ some k → (Header ≡ k) × HeaderBroken es f v
+  pub header-sound : (f : Field) → HeaderField f → (f ≡ N-TOTAL → Pig es c) → c .level ≡ inHeader → (k : Kind) → judge f ≡ some k
+      → (Header ≡ k) × HeaderBroken es f v
   unfolding broken
   header-sound f q-updown w l k e = let h = unless-is (leb 1 v && leb v 1) Header k (rw l at e) in (h .1, updown (one-out 1 v (h .0)))
   header-sound f m-version w l k e = let h = unless-is (leb 16 v && leb v 16) Header k (rw l at e) in (h .1, version (one-out 16 v (h .0)))

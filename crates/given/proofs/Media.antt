@@ -78,7 +78,8 @@ pub lacks-ends : (m : Medium) (s : State) (left : List ℕ) → sourceIn m s lef
 unfolding fromBits fromValues
 lacks-ends inBits s left e = by-test (leb (field s .width) (length left)) refl e
   where
-    by-test : (b : Bool) → leb (field s .width) (length left) ≡ b → gotIf b Ended (valueOf (take (field s .width) left)) (drop (field s .width) left) ≡ lacks Ended
+    by-test : (b : Bool) → leb (field s .width) (length left) ≡ b
+        → gotIf b Ended (valueOf (take (field s .width) left)) (drop (field s .width) left) ≡ lacks Ended
         → length left < field s .width
     by-test true i h = let z : _≡_ {A = ℕ} 0 1 = cc in absurd (omega arith)
     by-test false i h = leb-false (field s .width) (length left) i
@@ -91,7 +92,8 @@ lacks-ends inValues s (v ∷ vs) e = by-tests (ltb v (2 ^ field s .width)) (leb 
     by-tests false b h = cc
 
 -- 12
-pub wide-lacks : (m : Medium) (s : State) (v : ℕ) (left rest : List ℕ) → Hand m (field s) left v rest → 2 ^ field s .width ≤ v → sourceIn m s left ≡ lacks Wide
+pub wide-lacks : (m : Medium) (s : State) (v : ℕ) (left rest : List ℕ) → Hand m (field s) left v rest → 2 ^ field s .width ≤ v
+    → sourceIn m s left ≡ lacks Wide
 unfolding fromValues
 wide-lacks inBits s v left rest h l = let i = h .0 in absurd (omega arith)
 wide-lacks inValues s v left rest h l = rw (h, le-ltb v (2 ^ field s .width) l)
@@ -141,7 +143,8 @@ lacks-full inValues s (v ∷ vs) e = by-tests (ltb v (2 ^ field s .width)) (leb 
     by-tests false b i j h = let z : _≡_ {A = ℕ} 0 1 = cc in absurd (omega arith)
 
 -- where a value is at hand that fits, and the field ends past bit 830
-pub full-source : (m : Medium) (s : State) (v : ℕ) (left rest : List ℕ) → GoodIn m s left → Hand m (field s) left v rest → v < 2 ^ field s .width → 830 < past s
+pub full-source : (m : Medium) (s : State) (v : ℕ) (left rest : List ℕ) → GoodIn m s left → Hand m (field s) left v rest → v < 2 ^ field s .width
+    → 830 < past s
     → sourceIn m s left ≡ lacks Full
 unfolding fromValues
 full-source inBits s v left rest g h l n =

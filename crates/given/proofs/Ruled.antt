@@ -93,7 +93,9 @@ module _ (c : Context) (v : ℕ) (k : Kind) where
   amid-sound {es} t g told recalls hdr srt named-44 (amid-user l o x y z u (identified b n i h q)) e = by-side (direction-sound es c v k e)
     where
       differing : eqb v (c .dir) ≡ false → Differs es Q-DIR v
-      differing h = let w = inside-ends o b (holding NID-XUSER n) i in differs o (w .0) n (named-44 (w .0) n (w .1) l refl o) (w .1) (λ j. eqb-false v (c .dir) h (j ∙ sym (told .dir o)))
+      differing h =
+          let w = inside-ends o b (holding NID-XUSER n) i in
+          differs o (w .0) n (named-44 (w .0) n (w .1) l refl o) (w .1) (λ j. eqb-false v (c .dir) h (j ∙ sym (told .dir o)))
 
       by-side : ((2 < v) × (Value ≡ k)) ⊎ ((v ≤ 2) × (misdirected paper c (c .level) v ≡ some k)) → At es t k
       by-side (inl h) = of-kind (h .1) (seven (outside q-dir (inr (h .0))))
