@@ -5,12 +5,10 @@
 //
 // The answer is `ok`, the number of packets, and each packet as the N_PIG of its balise, a dot and its number in its telegram; or `refused`, the number
 // of the refusal, which telegram or balise it is, and the place. The answer to any other line is `not a question`.
-ghost use mathlib.Core.Path.{_≡_};
-ghost use mathlib.Core.Bool.{true, false, cond};
-ghost use mathlib.Core.List.{List, []};
-ghost use Prim.Native.Nat.{ℕ, _<_, _≤_};
-ghost use lib.ListN.{length, take};
-ghost use Rattle.group_answers.specs.Lines.{answerTo, TellsLine};
+ghost use Prim.Native.Nat.{_≤_};
+ghost use lib.ListN.{length};
+ghost use Rattle.group_answers.specs.Lines.{answerTo};
+ghost use Rattle.line_by_line.specs.Running.{reply, Answered};
 ghost use Rattle.queue.specs.Waiting.{Joins};
 use blocks::Input;
 use libc::STDERR_FILENO;
@@ -28,31 +26,18 @@ fn main() {
         lost: false,
     };
     let mut turns = u64::MAX;
-    while goes_on(input, q, turns) {
+    while line_by_line::goes_on(input, q, turns) {
         input = blocks::next(&mut block, &mut line, input);
         q = answered(&line, input, &mut out, q);
         turns -= 1;
     }
-    finish(input, queue::flush(&out, q));
+    finish(&out, input, q);
 }
 
-// Whether to read on. Once a write failed, no further answer can arrive whole.
-fn goes_on(input: Input, q: Queue, turns: u64) -> bool
-    ensures { λ r. ⌜ (r ≡ true → (input .ended ≡ false) × (0 < turns)) ⌝ }
-{
-    if q.lost {
-        return false;
-    }
-    if input.ended {
-        return false;
-    }
-    0 < turns
-}
-
-// Puts the answer to the line in hand, if it is whole: to every text of which as much is kept as is lent for it.
+// Puts the answer to what is kept of the line in hand, if that is whole.
 fn answered(line: &[u8], input: Input, out: &mut [u8], q: Queue) -> Queue
-    requires { ⌜ TellsLine (length (now line)) × (input .kept ≤ length (now line)) ⌝ }
-    ensures { λ r. ⌜ ((text : List ℕ) → take (input .kept) (now (line .entry)) ≡ take (length (now (line .entry))) text → Joins (cond (input .whole) (answerTo text) []) q (now (out .entry)) r (now (out .exit))) ⌝ }
+    requires { ⌜ input .kept ≤ length (now line) ⌝ }
+    ensures { λ r. ⌜ Joins (reply answerTo (now (line .entry)) input) q (now (out .entry)) r (now (out .exit)) ⌝ }
 {
     if input.whole {
         let n = input.kept;
@@ -61,12 +46,16 @@ fn answered(line: &[u8], input: Input, out: &mut [u8], q: Queue) -> Queue
     q
 }
 
-// What could not be read or written is said on standard error, since standard output lacks it.
-fn finish(input: Input, q: Queue) {
+// Writes the last answers: with them all lines that were read are answered. What could not be read or written is said on standard error, since
+// standard output lacks it.
+fn finish(out: &[u8], input: Input, q: Queue)
+    requires { ⌜ Answered answerTo input (now out) q ⌝ }
+{
+    let last = queue::flush(out, q);
     if input.failed {
         io::write_all(STDERR_FILENO, b"groups: reading failed\n");
     }
-    if q.lost {
+    if last.lost {
         io::write_all(STDERR_FILENO, b"groups: writing failed\n");
     }
 }

@@ -1,12 +1,10 @@
 // Reads telegrams from standard input, one a line as characters 0 and 1, and prints for each whether it is one.
 //
 // Of a line that may reach over any number of blocks, as many characters are kept as tell its answer.
-ghost use mathlib.Core.Path.{_≡_};
-ghost use mathlib.Core.Bool.{true, false, cond};
-ghost use mathlib.Core.List.{List, []};
-ghost use Prim.Native.Nat.{ℕ, _<_, _≤_};
-ghost use lib.ListN.{length, take};
-ghost use Rattle.answers.specs.Text.{responseTo, TellsLine};
+ghost use Prim.Native.Nat.{_≤_};
+ghost use lib.ListN.{length};
+ghost use Rattle.answers.specs.Text.{responseTo};
+ghost use Rattle.line_by_line.specs.Running.{reply, Answered};
 ghost use Rattle.queue.specs.Waiting.{Joins};
 use blocks::Input;
 use libc::STDERR_FILENO;
@@ -24,31 +22,18 @@ fn main() {
         lost: false,
     };
     let mut turns = u64::MAX;
-    while goes_on(input, q, turns) {
+    while line_by_line::goes_on(input, q, turns) {
         input = blocks::next(&mut block, &mut line, input);
         q = answered(&line, input, &mut out, q);
         turns -= 1;
     }
-    finish(input, queue::flush(&out, q));
+    finish(&out, input, q);
 }
 
-// Whether to read on. Once a write failed, no further answer can arrive whole.
-fn goes_on(input: Input, q: Queue, turns: u64) -> bool
-    ensures { λ r. ⌜ (r ≡ true → (input .ended ≡ false) × (0 < turns)) ⌝ }
-{
-    if q.lost {
-        return false;
-    }
-    if input.ended {
-        return false;
-    }
-    0 < turns
-}
-
-// Puts the answer to the line in hand, if it is whole: to every text of which as much is kept as is lent for it.
+// Puts the answer to what is kept of the line in hand, if that is whole.
 fn answered(line: &[u8], input: Input, out: &mut [u8], q: Queue) -> Queue
-    requires { ⌜ TellsLine (length (now line)) × (input .kept ≤ length (now line)) ⌝ }
-    ensures { λ r. ⌜ ((text : List ℕ) → take (input .kept) (now (line .entry)) ≡ take (length (now (line .entry))) text → Joins (cond (input .whole) (responseTo text) []) q (now (out .entry)) r (now (out .exit))) ⌝ }
+    requires { ⌜ input .kept ≤ length (now line) ⌝ }
+    ensures { λ r. ⌜ Joins (reply responseTo (now (line .entry)) input) q (now (out .entry)) r (now (out .exit)) ⌝ }
 {
     if input.whole {
         let n = input.kept;
@@ -57,12 +42,16 @@ fn answered(line: &[u8], input: Input, out: &mut [u8], q: Queue) -> Queue
     q
 }
 
-// What could not be read or written is said on standard error, since standard output lacks it.
-fn finish(input: Input, q: Queue) {
+// Writes the last answers: with them all lines that were read are answered. What could not be read or written is said on standard error, since
+// standard output lacks it.
+fn finish(out: &[u8], input: Input, q: Queue)
+    requires { ⌜ Answered responseTo input (now out) q ⌝ }
+{
+    let last = queue::flush(out, q);
     if input.failed {
         io::write_all(STDERR_FILENO, b"lines: reading failed\n");
     }
-    if q.lost {
+    if last.lost {
         io::write_all(STDERR_FILENO, b"lines: writing failed\n");
     }
 }

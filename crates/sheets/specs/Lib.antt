@@ -1,3 +1,3 @@
--- What the program reads of its input.
+-- What the program reads of its input, and what it prints for it.
 pub mod Input
 pub mod Examples

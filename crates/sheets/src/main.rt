@@ -1,5 +1,8 @@
 // Telegrams as data sheets and back: `out` prints the sheet of the telegram that standard input has as a line of characters 0 and 1, `in`
 // the line of the telegram whose sheet standard input has. What is refused is printed by its number and its place, or row.
+ghost use Rattle.printed.specs.Printed.{outText};
+ghost use Rattle.printed_in.specs.Sheet.{inText};
+ghost use Rattle.sheets.specs.Input.{Prints};
 
 mod answer;
 
@@ -61,7 +64,7 @@ fn out() {
     };
     let mut text = io::large_buffer();
     let end = from_start_of_line(&input, n, &mut text);
-    print(&text[..end]);
+    print_sheet(&text[..end]);
 }
 
 // A header takes 21 bytes and no row more than 43. So 35,712 bytes tell whether each of 830 rows is one and whether more follows, and no
@@ -73,7 +76,21 @@ fn take_in() {
     };
     let mut text = [0u8; 1024];
     let end = from_start_of_sheet(&input, n, &mut text);
-    print(&text[..end]);
+    print_line(&text[..end]);
+}
+
+// The sheet of the line that was read, or why there is none.
+fn print_sheet(text: &[u8])
+    requires { ⌜ Prints outText (now text) ⌝ }
+{
+    print(text);
+}
+
+// The line of the sheet that was read, or why there is none.
+fn print_line(text: &[u8])
+    requires { ⌜ Prints inText (now text) ⌝ }
+{
+    print(text);
 }
 
 // An input that cannot be read to its end gets no answer.

@@ -1,3 +1,3 @@
--- What is put for the line in hand, in reading order.
-pub mod Told
+-- The answer to a line, in reading order.
+pub mod Lines
 pub mod Examples

@@ -9,11 +9,11 @@
 // to a number past 64 bits, and to a line of more than 65,535 characters: a question has so many only with thousands of needless
 // zeros.
 ghost use mathlib.Core.Path.{_≡_};
-ghost use mathlib.Core.Bool.{true, false};
-ghost use Prim.Native.Nat.{_<_, _≤_};
+ghost use Prim.Native.Nat.{_≤_};
 ghost use lib.ListN.{length};
+ghost use Rattle.line_by_line.specs.Running.{reply, Answered};
 ghost use Rattle.queue.specs.Waiting.{Joins};
-ghost use Rattle.vectors.specs.Told.{told};
+ghost use Rattle.vectors.specs.Lines.{answerTo};
 use blocks::Input;
 use libc::STDERR_FILENO;
 use queue::Queue;
@@ -30,31 +30,18 @@ fn main() {
         lost: false,
     };
     let mut turns = u64::MAX;
-    while goes_on(input, q, turns) {
+    while line_by_line::goes_on(input, q, turns) {
         input = blocks::next(&mut block, &mut line, input);
         q = answered(&line, input, &mut out, q);
         turns -= 1;
     }
-    finish(input, queue::flush(&out, q));
-}
-
-// Whether to read on. Once a write failed, no further answer can arrive whole.
-fn goes_on(input: Input, q: Queue, turns: u64) -> bool
-    ensures { λ r. ⌜ (r ≡ true → (input .ended ≡ false) × (0 < turns)) ⌝ }
-{
-    if q.lost {
-        return false;
-    }
-    if input.ended {
-        return false;
-    }
-    0 < turns
+    finish(&out, input, q);
 }
 
 // Puts the answer to the line in hand, if it is whole. Of one that fills what is lent for it, more may be missing.
 fn answered(line: &[u8], input: Input, out: &mut [u8], q: Queue) -> Queue
-    requires { ⌜ input .kept ≤ length (now line) ⌝ }
-    ensures { λ r. ⌜ Joins (told (input .whole) (now (line .entry)) (input .kept)) q (now (out .entry)) r (now (out .exit)) ⌝ }
+    requires { ⌜ (65536 ≡ length (now line)) × (input .kept ≤ length (now line)) ⌝ }
+    ensures { λ r. ⌜ Joins (reply answerTo (now (line .entry)) input) q (now (out .entry)) r (now (out .exit)) ⌝ }
 {
     if !input.whole {
         return q;
@@ -66,12 +53,16 @@ fn answered(line: &[u8], input: Input, out: &mut [u8], q: Queue) -> Queue
     questions::respond(&line[..n], out, q)
 }
 
-// What could not be read or written is said on standard error, since standard output lacks it.
-fn finish(input: Input, q: Queue) {
+// Writes the last answers: with them all lines that were read are answered. What could not be read or written is said on standard error, since
+// standard output lacks it.
+fn finish(out: &[u8], input: Input, q: Queue)
+    requires { ⌜ Answered answerTo input (now out) q ⌝ }
+{
+    let last = queue::flush(out, q);
     if input.failed {
         io::write_all(STDERR_FILENO, b"vectors: reading failed\n");
     }
-    if q.lost {
+    if last.lost {
         io::write_all(STDERR_FILENO, b"vectors: writing failed\n");
     }
 }

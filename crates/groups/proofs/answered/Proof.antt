@@ -1,27 +1,16 @@
--- `groups::answered` meets its contract: what is kept lies within the line, and it has the answer of the whole. Assumes nothing.
-use mathlib.Core.Path.{_≡_, sym, ap, _∙_}
-use mathlib.Core.Bool.{Bool, true, false, cond}
-use mathlib.Core.List.{List, []}
-use Prim.Native.Nat.{ℕ}
+-- `groups::answered` meets its contract: what is kept lies within the line. Assumes nothing.
+use mathlib.Core.Path.{sym}
 use denote.Ref.{now}
-use lib.ListN.{length, take}
 use lib.Seq.{length-take-le}
 use Rattle.queue.proofs.Joining.{joins-nothing, joins-as}
-use Rattle.group_answers.specs.Lines.{answerTo, TellsLine}
+use Rattle.group_answers.specs.Lines.{answerTo}
+use Rattle.line_by_line.proofs.Whole.{reply-whole, reply-none}
 use borrow.Author.Needs.{needs}
 use Rattle.groups.proofs.answered.Statement.{statement}
 use Rattle.groups.proofs.answered.Tie as tie
 
--- the answer to what is kept is the answer to the text
-told : (whole : Bool) (line text : List ℕ) (n : ℕ) → TellsLine (length line) → take n line ≡ take (length line) text
-    → whole ≡ true → answerTo (take n line) ≡ cond whole (answerTo text) []
-told whole line text n tells e w = rw w (ap answerTo e ∙ tells .tells text)
-
-nothing : (whole : Bool) (text : List ℕ) → whole ≡ false → [] ≡ cond whole (answerTo text) []
-nothing whole text w = rw w
-
 slice-aggregate-respond : tie.Need-slice-aggregate-respond
-slice-aggregate-respond c = sym (length-take-le (c .before .before .before .before .args .input .kept) (now (c .before .before .before .before .args .line)) (c .before .before .before .before .pre .1))
+slice-aggregate-respond c = sym (length-take-le (c .before .before .before .before .args .input .kept) (now (c .before .before .before .before .args .line)) (c .before .before .before .before .pre))
 
 respond-requires : tie.Need-respond-requires
 respond-requires c κs = search needs
@@ -32,10 +21,12 @@ same-length c = search needs
 returns : tie.Need-returns
 returns c =
     let s = c .before .before .before .before .before .before .before .before in
-    λ text e. joins-as (told (s .args .input .whole) (now (s .args .line)) text (s .args .input .kept) (s .pre .0) e (c .before .before .before .before .before .if1 .taken)) (c .before .before .respond .ensures)
+    joins-as (reply-whole answerTo (now (s .args .line)) (s .args .input) (c .before .before .before .before .before .if1 .taken)) (c .before .before .respond .ensures)
 
 returns-2 : tie.Need-returns-2
-returns-2 c = λ text e. joins-as (nothing (c .before .before .before .args .input .whole) text (c .if1 .left)) (joins-nothing _ _)
+returns-2 c =
+    let s = c .before .before .before in
+    joins-as (reply-none answerTo (now (s .args .line)) (s .args .input) (c .if1 .left)) (joins-nothing _ _)
 
 pub answered-spec : {M : Type 1} → statement M
 answered-spec =

@@ -1,5 +1,5 @@
 -- `sheets::out` is safe and ends: what it reads lies within the buffer, which is long enough for an answer, and what it writes out within the
--- text. Assumes nothing.
+-- text, and is the answer. Assumes nothing.
 use mathlib.Core.Path.{sym, subst}
 use Prim.Native.Nat.{_≤_}
 use native.Mathlib.Omega.{arith}
@@ -7,7 +7,8 @@ use lib.ListN.{length}
 use lib.Seq.{length-take-le}
 use borrow.Author.Needs.{needs}
 use Rattle.blocks.specs.Reading.{Within}
-use Rattle.sheets.proofs.Held.{tells-as, held}
+use Rattle.printed.specs.Printed.{outText}
+use Rattle.sheets.proofs.Held.{tells-as, held, grown-prints}
 use Rattle.printed.proofs.Texts.{grown-within}
 use Rattle.sheets.proofs.out.Statement.{statement}
 use Rattle.sheets.proofs.out.Tie as tie
@@ -52,11 +53,11 @@ from-start-of-line-requires c κs = (tells-as (c .before .before .before .before
 array-share-prefix-text : tie.Need-array-share-prefix-text
 array-share-prefix-text c = grown-within (c .before .from-start-of-line .ensures _ (held _ _ (read-within (c .before .before .before .before .before .before))))
 
-slice-aggregate-print : tie.Need-slice-aggregate-print
-slice-aggregate-print c = sym (length-take-le _ _ (array-share-prefix-text (c .before)))
+slice-aggregate-print-sheet : tie.Need-slice-aggregate-print-sheet
+slice-aggregate-print-sheet c = sym (length-take-le _ _ (array-share-prefix-text (c .before)))
 
-print-requires : tie.Need-print-requires
-print-requires c κs = search needs
+print-sheet-requires : tie.Need-print-sheet-requires
+print-sheet-requires c κs = grown-prints outText _ _ (read-within (c .before .before .before .before .before .before .before)) (c .before .before .from-start-of-line .ensures)
 
 returns-2 : tie.Need-returns-2
 returns-2 c = search needs
@@ -77,6 +78,6 @@ out-spec =
     slice-aggregate-from-start-of-line-2
     from-start-of-line-requires
     array-share-prefix-text
-    slice-aggregate-print
-    print-requires
+    slice-aggregate-print-sheet
+    print-sheet-requires
     returns-2)

@@ -1,5 +1,5 @@
 -- `sheets::take_in` is safe and ends: what it reads lies within the buffer, which is long enough for an answer, and what it writes out within the
--- text. Assumes nothing.
+-- text, and is the answer. Assumes nothing.
 use mathlib.Core.Path.{sym, subst}
 use Prim.Native.Nat.{_≤_}
 use native.Mathlib.Omega.{arith}
@@ -7,7 +7,8 @@ use lib.ListN.{length}
 use lib.Seq.{length-take-le}
 use borrow.Author.Needs.{needs}
 use Rattle.blocks.specs.Reading.{Within}
-use Rattle.sheets.proofs.Held.{held}
+use Rattle.printed_in.specs.Sheet.{inText}
+use Rattle.sheets.proofs.Held.{held, grown-prints}
 use Rattle.printed_in.proofs.Kept.{in-kept}
 use Rattle.printed.proofs.Texts.{grown-within}
 use Rattle.sheets.proofs.take_in.Statement.{statement}
@@ -50,11 +51,11 @@ from-start-of-sheet-requires c κs = (in-kept _ (omega arith), read-within (c .b
 array-share-prefix-text : tie.Need-array-share-prefix-text
 array-share-prefix-text c = grown-within (c .before .from-start-of-sheet .ensures _ (held _ _ (read-within (c .before .before .before .before .before))))
 
-slice-aggregate-print : tie.Need-slice-aggregate-print
-slice-aggregate-print c = sym (length-take-le _ _ (array-share-prefix-text (c .before)))
+slice-aggregate-print-line : tie.Need-slice-aggregate-print-line
+slice-aggregate-print-line c = sym (length-take-le _ _ (array-share-prefix-text (c .before)))
 
-print-requires : tie.Need-print-requires
-print-requires c κs = search needs
+print-line-requires : tie.Need-print-line-requires
+print-line-requires c κs = grown-prints inText _ _ (read-within (c .before .before .before .before .before .before)) (c .before .before .from-start-of-sheet .ensures)
 
 returns-2 : tie.Need-returns-2
 returns-2 c = search needs
@@ -74,6 +75,6 @@ take-in-spec =
     slice-aggregate-from-start-of-sheet-2
     from-start-of-sheet-requires
     array-share-prefix-text
-    slice-aggregate-print
-    print-requires
+    slice-aggregate-print-line
+    print-line-requires
     returns-2)

@@ -1,22 +1,57 @@
--- `vectors::main` is safe and ends. The loop's invariant: what is lent has its length. The measure is the number of turns that are left.
--- Assumes nothing.
-use mathlib.Core.Path.{_≡_, refl}
-use Prim.Native.Nat.{ℕ, _<_, _-_}
+-- `vectors::main` is safe and ends, and what it has written then is the answers to all lines. The loop's invariant: what is lent has its length, and the
+-- program has run line by line. The measure is the number of turns that are left. Assumes nothing.
+use mathlib.Core.Path.{_≡_, refl, sym, ap, _∙_}
+use mathlib.Core.Bool.{false}
+use mathlib.Core.List.{List}
+use Prim.Native.Nat.{ℕ, _≤_, _<_, _-_}
+use native.Mathlib.Nat.{lt-of-not-le}
+use native.Mathlib.Decide.{decLe}
 use native.Mathlib.Omega.{arith}
 use borrow.Author.Needs.{needs}
-use lib.ListN.{length}
+use borrow.Author.Tests.{le-ltb}
+use lib.ListN.{length, take}
+use lib.Seq.{take-all, length-take-le}
+use Rattle.answer_text.specs.Texts.{noQuestion}
 use Rattle.blocks.proofs.Stepping.{step-fits}
+use Rattle.line_by_line.specs.Running.{Enough, Runs}
+use Rattle.line_by_line.proofs.Whole.{begun-runs, reads-on, turns-on, runs-answered}
+use Rattle.vectors.specs.Lines.{answerTo}
 use Rattle.vectors.proofs.main.Statement.{statement}
 use Rattle.vectors.proofs.main.Tie as tie
 
 abbrev Inv-loop : tie.InvT-loop
-Inv-loop block₀ line₀ out₀ input₀ q₀ turns₀ block line out input q turns = (65536 ≡ length block) × (65536 ≡ length line) × (4096 ≡ length out)
+Inv-loop block₀ line₀ out₀ input₀ q₀ turns₀ block line out input q turns = (65536 ≡ length block) × (65536 ≡ length line) × (4096 ≡ length out) × Runs answerTo block line input out q
 
 abbrev μ-loop : tie.MeasureT-loop
 μ-loop block₀ line₀ out₀ input₀ q₀ turns₀ block line out input q turns = turns
 
 fewer : (n : ℕ) → 0 < n → n - 1 < n
 fewer n h = omega arith
+
+-- a line that is not kept whole is too long to be a question
+long-answer : (text : List ℕ) → 65536 ≤ length text → answerTo text ≡ noQuestion
+long-answer text h = rw (le-ltb (length text) 65536 h)
+
+kept-tells : (text : List ℕ) → answerTo (take 65536 text) ≡ answerTo text
+kept-tells text = by (decLe (length text) 65536)
+  where
+    by : Dec (length text ≤ 65536) → answerTo (take 65536 text) ≡ answerTo text
+    by (yes h) = ap answerTo (take-all 65536 text h)
+    by (no h) =
+        let l = lt-of-not-le h in
+        long-answer (take 65536 text) (omega (arith, length-take-le 65536 text (omega arith))) ∙ sym (long-answer text (omega arith))
+
+enough : (line out : List ℕ) → 65536 ≡ length line → 4096 ≡ length out → Enough answerTo line out
+enough line out l o =
+    record {
+      tells = λ text. ap (λ (n : ℕ). answerTo (take n text)) (sym l) ∙ kept-tells text;
+      some = omega arith;
+      room = omega arith;
+    }
+
+-- a turn is begun before the end of the input, where turns are left
+turn : (c : tie.Then1 Inv-loop μ-loop) → (c .before .before .loop .input .ended ≡ false) × (0 < c .before .before .loop .turns)
+turn c = let l = c .before .before .loop in reads-on (l .input) (l .q) (l .turns) (sym (c .before .goes-on .ensures) ∙ c .if1 .taken)
 
 large-buffer-requires : tie.Need-large-buffer-requires Inv-loop μ-loop
 large-buffer-requires c κs = search needs
@@ -28,7 +63,7 @@ start-requires : tie.Need-start-requires Inv-loop μ-loop
 start-requires c κs = search needs
 
 loop-holds : tie.Need-loop-holds Inv-loop μ-loop
-loop-holds c = (c .before .before .large-buffer .ensures, c .before .large-buffer2 .ensures, refl)
+loop-holds c = (c .before .before .large-buffer .ensures, c .before .large-buffer2 .ensures, refl, begun-runs (c .start .ensures) (enough _ _ (c .before .large-buffer2 .ensures) refl))
 
 goes-on-requires : tie.Need-goes-on-requires Inv-loop μ-loop
 goes-on-requires c κs = search needs
@@ -49,25 +84,22 @@ slice-aggregate-answered-2 : tie.Need-slice-aggregate-answered-2 Inv-loop μ-loo
 slice-aggregate-answered-2 c = c .before .before .before .before .before .before .before .before .before .loop .inv .2
 
 answered-requires : tie.Need-answered-requires Inv-loop μ-loop
-answered-requires c κs = step-fits (c .before .before .before .before .before .before .before .before .goes-on .ensures (c .before .before .before .before .before .before .before .if1 .taken) .0) (c .before .before .before .before .next .ensures)
+answered-requires c κs = (omega (arith, c .before .before .before .before .before .before .before .before .before .loop .inv .1), step-fits (turn (c .before .before .before .before .before .before .before) .0) (c .before .before .before .before .next .ensures))
 
 sub-turns : tie.Need-sub-turns Inv-loop μ-loop
-sub-turns c = c .before .before .before .before .before .before .before .before .before .before .goes-on .ensures (c .before .before .before .before .before .before .before .before .before .if1 .taken) .1
+sub-turns c = turn (c .before .before .before .before .before .before .before .before .before) .1
 
 loop-less : tie.Need-loop-less Inv-loop μ-loop
-loop-less c = fewer _ (c .before .before .before .before .before .before .before .before .before .before .goes-on .ensures (c .before .before .before .before .before .before .before .before .before .if1 .taken) .1)
+loop-less c = fewer _ (turn (c .before .before .before .before .before .before .before .before .before) .1)
 
 loop-again : tie.Need-loop-again Inv-loop μ-loop
-loop-again c = (omega (arith, c .before .before .before .before .before .before .before .before .before .before .before .loop .inv .0), omega (arith, c .before .before .before .before .before .before .before .before .before .before .before .loop .inv .1), omega (arith, c .before .before .before .before .before .before .before .before .before .before .before .loop .inv .2))
+loop-again c = (omega (arith, c .before .before .before .before .before .before .before .before .before .before .before .loop .inv .0), omega (arith, c .before .before .before .before .before .before .before .before .before .before .before .loop .inv .1), omega (arith, c .before .before .before .before .before .before .before .before .before .before .before .loop .inv .2), turns-on (c .before .before .before .before .before .before .before .before .before .before .before .loop .inv .3) (turn (c .before .before .before .before .before .before .before .before .before) .0) (c .before .before .before .before .before .before .next .ensures) (c .before .answered .ensures))
 
-slice-aggregate-flush : tie.Need-slice-aggregate-flush Inv-loop μ-loop
-slice-aggregate-flush c = c .before .before .before .loop .inv .2
-
-flush-requires : tie.Need-flush-requires Inv-loop μ-loop
-flush-requires c κs = search needs
+slice-aggregate-finish : tie.Need-slice-aggregate-finish Inv-loop μ-loop
+slice-aggregate-finish c = c .before .before .before .loop .inv .2
 
 finish-requires : tie.Need-finish-requires Inv-loop μ-loop
-finish-requires c κs = search needs
+finish-requires c κs = runs-answered (c .before .before .before .loop .inv .3)
 
 returns : tie.Need-returns Inv-loop μ-loop
 returns c = search needs
@@ -92,7 +124,6 @@ main-spec =
     sub-turns
     loop-less
     loop-again
-    slice-aggregate-flush
-    flush-requires
+    slice-aggregate-finish
     finish-requires
     returns)
