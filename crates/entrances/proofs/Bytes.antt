@@ -7,12 +7,13 @@ use Prim.Native.Nat.{ℕ, _≤_}
 use native.Mathlib.Omega.{arith}
 use lib.ListN.{take}
 use Rattle.bits.specs.Bits.{bitsOf}
+use Rattle.format.specs.Judges.{Judges}
 use Rattle.format.specs.Rules.{paper}
 use Rattle.format.specs.Telegrams.{Entry, read}
 use Rattle.format.specs.declared.Refusal.{Refusal}
 use Rattle.laws.proofs.Bounds.{read-placed}
 use Rattle.states.specs.Reader.{sized, clear, checked}
-use Rattle.states.proofs.Answers.{Judges, judges, Sound, Unsound, sized-is, clear-is, sent-below, sent-few, fields-decide, check-judges}
+use Rattle.states.proofs.Answers.{judges, Sound, Unsound, sized-is, clear-is, sent-below, sent-few, fields-decide, check-judges}
 use Rattle.states.proofs.Answers.Unsound.{missized, padded, failing}
 use Rattle.given.proofs.Accepted.{kept-is, read-judged}
 use Rattle.given.specs.Broken.Medium.{inBits}

@@ -1,4 +1,4 @@
--- Every entry point refuses and accepts just as the rules say.
+-- Every entry point of one telegram refuses and accepts just as the rules say.
 pub mod Lifted
 pub mod Bytes
 pub mod Calls

@@ -8,6 +8,7 @@ use Prim.Native.Nat.{ℕ, _+_, _*_, _≤_}
 use native.Mathlib.Omega.{arith}
 use borrow.Author.Tests.{leb-true, leb-false, le-leb, lt-leb}
 use lib.Dec.{leb}
+use Rattle.format.specs.Judges.{Judges}
 use Rattle.format.specs.Normal.{normal}
 use Rattle.format.specs.Refusals.{numberOf, inNumbers, codeOf}
 use Rattle.format.specs.Telegrams.{Entry, Result}
@@ -19,7 +20,7 @@ use Rattle.format.specs.declared.Answer.the-variants as answers
 use Rattle.format.proofs.Numbers.{number-in, refusal-is, answer-is}
 use Rattle.states.specs.Normaliser.{normalOf}
 use Rattle.states.specs.Reader.{early, roomed, answered}
-use Rattle.states.proofs.Answers.{Judges, judges}
+use Rattle.states.proofs.Answers.{judges}
 use Rattle.entrances.specs.Entrances.{RoomGiven, RoomAccepted, NormalOf, Answers, Coded}
 use Rattle.entrances.specs.Entrances.RoomGiven.{one, otherwise}
 

@@ -4,11 +4,12 @@ use mathlib.Core.List.{List}
 use mathlib.Core.Logic.{_↔_}
 use mathlib.Core.Option.{Option, some, none}
 use mathlib.Core.Path.{_≡_, refl, sym, ap, _∙_}
-use Prim.Native.Nat.{ℕ, _≤_}
+use Prim.Native.Nat.{ℕ}
 use native.Mathlib.Omega.{arith}
 use borrow.Author.Tests.{leb-true, leb-false, le-leb, lt-leb}
 use lib.Dec.{leb}
 use lib.ListN.{length}
+use Rattle.format.specs.Judges.{Judges}
 use Rattle.format.specs.Rules.{paper}
 use Rattle.format.specs.Telegrams.{Entry, Result, values, bitCount, write}
 use Rattle.format.specs.Telegrams.Result.{accepted, refused}
@@ -16,8 +17,6 @@ use Rattle.format.specs.declared.Kind.the-variants.{Room}
 use Rattle.format.specs.declared.Refusal.{Refusal}
 use Rattle.states.specs.Labels.{numbers}
 use Rattle.states.specs.Reader.{early}
-use Rattle.states.proofs.Answers.{Judges}
-use Rattle.sheet.specs.Rows.{sheetText}
 use Rattle.sheet.specs.Reading.{sheetIn}
 use Rattle.sheet.specs.Reading.Rows.{rows, bad}
 use Rattle.sheet.specs.Reading as reading
@@ -28,9 +27,9 @@ use Rattle.sheet.specs.declared.Reply.the-variants.{Done, Refused, Row}
 use Rattle.sheet.proofs.Back.{sheet-back, only-sheets}
 use Rattle.sheet.proofs.Numbers.{export-answer, import-answer}
 use Rattle.given.proofs.Accepted.{kept-is, write-judged}
-use Rattle.entrances.specs.Entrances.{BytesGiven, BytesAccepted, RoomGiven, RoomAccepted}
+use Rattle.entrances.specs.Entrances.{RoomAccepted}
 use Rattle.entrances.specs.Entrances.RoomGiven.{one, otherwise}
-use Rattle.entrances.specs.Rows.{ColumnGiven, SheetAccepted, RowGiven, Replies}
+use Rattle.entrances.specs.Rows.{ColumnGiven, SheetAccepted, ExportGiven, ExportAccepted, ExportedLength, ImportGiven, ImportRow, ImportedSize, Replies}
 use Rattle.entrances.proofs.Lifted.{room-judged}
 use Rattle.entrances.proofs.Bytes.{check-judged}
 use Rattle.entrances.proofs.Sheets.{sheet-rows}
@@ -38,18 +37,12 @@ use Rattle.entrances.proofs.Rows.{import-row}
 
 -- ---- export
 
--- "1 for a text output under 65,536 bytes .. in export the reader's"
-pub export-judged : (s : List ℕ) (n room : ℕ)
-    → Judges (RoomAccepted 65536 room (BytesAccepted s n)) (RoomGiven 65536 room (BytesGiven s n)) (exported paper s n room)
+pub export-judged : (s : List ℕ) (n room : ℕ) → Judges (ExportAccepted s n room) (ExportGiven s n room) (exported paper s n room)
 unfolding exported
 export-judged s n room = room-judged (check-judged s n) 65536 room
 
--- its size is that of the sheet of what is accepted
-abbrev Exported : List ℕ → ℕ → ℕ → ℕ → Type 0
-Exported s n room size = (es : List Entry) × RoomAccepted 65536 room (BytesAccepted s n) es × (size ≡ length (sheetText es))
-
 module _ (s : List ℕ) (n room : ℕ) where
-  sized : (b : Result) → exported paper s n room ≡ b → (size : ℕ) → lengthOf b ≡ Done size → Exported s n room size
+  sized : (b : Result) → exported paper s n room ≡ b → (size : ℕ) → lengthOf b ≡ Done size → ExportedLength s n room size
   sized (accepted es) e size h = (es, export-judged s n room .accepts es .0 e, cc)
   sized (refused r) e size h = let z : _≡_ {A = ℕ} 0 1 = cc in absurd (omega arith)
 
@@ -62,7 +55,7 @@ no-row (accepted es) k e = let z : _≡_ {A = ℕ} 0 1 = cc in omega arith
 no-row (refused r) k e = let z : _≡_ {A = ℕ} 0 1 = cc in omega arith
 
 pub export-replies : {s : List ℕ} {n : ℕ} {before after : List ℕ} {reply : Reply} → Export paper s n before reply after
-    → Replies (Exported s n (length before)) (RoomGiven 65536 (length before) (BytesGiven s n)) (λ k. ⊥) reply
+    → Replies (ExportedLength s n (length before)) (ExportGiven s n (length before)) (λ k. ⊥) reply
 export-replies {s} {n} {before} {after} {reply} h =
     let i = export-answer h in
     let room = length before in
@@ -111,19 +104,15 @@ module _ (text : List ℕ) where
 
 -- ---- import
 
--- "in import a telegram output under 104", and then the size of what is accepted
-abbrev Taken : List ℕ → ℕ → ℕ → Type 0
-Taken text room size = (es : List Entry) × RoomAccepted 104 room (SheetAccepted text) es × (size ≡ bitCount es)
-
 module _ (text : List ℕ) (room : ℕ) where
   abbrev By : Bool → Imported
   By b = cond b (imported paper text) (refusedBy (early Room))
 
-  by-room : (b : Bool) → leb 104 room ≡ b → (r : Refusal) → By b ≡ refusedBy r → RoomGiven 104 room (ColumnGiven text) r
+  by-room : (b : Bool) → leb 104 room ≡ b → (r : Refusal) → By b ≡ refusedBy r → ImportGiven text room r
   by-room true e r h = otherwise (leb-true 104 room e) (imported-given text r .0 h)
   by-room false e r h = let i : early Room ≡ r = cc in rw (← i) (one (leb-false 104 room e))
 
-  in-room : {r : Refusal} → RoomGiven 104 room (ColumnGiven text) r → By (leb 104 room) ≡ refusedBy r
+  in-room : {r : Refusal} → ImportGiven text room r → By (leb 104 room) ≡ refusedBy r
   in-room (one l) = rw (lt-leb 104 room l)
   in-room (otherwise {r = r} l o) = rw (le-leb 104 room l) (imported-given text r .1 o)
 
@@ -131,7 +120,7 @@ module _ (text : List ℕ) (room : ℕ) where
   with-room true e es h = record { enough = leb-true 104 room e; accepted = imported-accepted text es .0 h }
   with-room false e es h = let z : _≡_ {A = ℕ} 0 1 = cc in absurd (omega arith)
 
-  pub import-given : (r : Refusal) → (importInto paper text room ≡ refusedBy r) ↔ RoomGiven 104 room (ColumnGiven text) r
+  pub import-given : (r : Refusal) → (importInto paper text room ≡ refusedBy r) ↔ ImportGiven text room r
   unfolding importInto
   import-given r = (by-room (leb 104 room) refl r, in-room)
 
@@ -140,7 +129,7 @@ module _ (text : List ℕ) (room : ℕ) where
   import-accepted es = (with-room (leb 104 room) refl es, λ a. rw (le-leb 104 room (a .enough)) (imported-accepted text es .1 (a .accepted)))
 
   -- what is replied of each
-  done-is : (b : Imported) → importInto paper text room ≡ b → (size : ℕ) → sizeOf b ≡ Done size → Taken text room size
+  done-is : (b : Imported) → importInto paper text room ≡ b → (size : ℕ) → sizeOf b ≡ Done size → ImportedSize text room size
   done-is (taken es) e size h = (es, import-accepted es .0 e, cc)
   done-is (refusedBy r) e size h = let z : _≡_ {A = ℕ} 0 1 = cc in absurd (omega arith)
   done-is (refusedAt k) e size h = let z : _≡_ {A = ℕ} 0 1 = cc in absurd (omega arith)
@@ -156,7 +145,7 @@ row-is (refusedBy q) k = (λ e. cc, λ e. cc)
 row-is (refusedAt j) k = (λ e. cc, λ e. cc)
 
 pub import-replies : {text before after : List ℕ} {reply : Reply} → Import paper text before reply after
-    → Replies (Taken text (length before)) (RoomGiven 104 (length before) (ColumnGiven text)) (λ k. (104 ≤ length before) × RowGiven text k) reply
+    → Replies (ImportedSize text (length before)) (ImportGiven text (length before)) (ImportRow text (length before)) reply
 import-replies {text} {before} {after} {reply} h =
     let i = import-answer h in
     let room = length before in

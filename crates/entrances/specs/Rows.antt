@@ -8,13 +8,14 @@ use mathlib.Core.Path.{_≡_}
 use Prim.Native.Nat.{ℕ, suc, _/_, _%_, _^_, _≤_, _<_}
 use lib.ListN.{length}
 use Rattle.format.specs.Fields.{fields, NID-RADIO}
-use Rattle.format.specs.Telegrams.{Entry, names, values}
+use Rattle.format.specs.Telegrams.{Entry, names, values, bitCount}
 use Rattle.format.specs.declared.Refusal.{Refusal}
 use Rattle.sheet.specs.Rows.{heading, rowText, sheetText}
 use Rattle.sheet.specs.declared.Reply.{Reply}
 use Rattle.sheet.specs.declared.Reply.the-variants as replies
 use Rattle.given.specs.Broken.Medium.{inValues}
 use Rattle.given.specs.Given.{Given, Kept, Accepted}
+use Rattle.entrances.specs.Entrances.{BytesGiven, BytesAccepted, RoomGiven, RoomAccepted}
 
 -- ---- rows
 
@@ -23,13 +24,13 @@ abbrev pub Lettered : ℕ → Type 0
 Lettered d = (d ≤ 9) ⊎ (d ≡ 15)
 
 -- "a known name, that name's own width, a value (no needless zeros) and CRLF": `rowText e`, for an entry of a field of the tables with a value that
--- is not "past 64 bits", which for NID_RADIO has sixteen "characters 0-9 and F"
+-- is not "past 64 bits", which for NID_RADIO has sixteen "characters 0-9 and F". `known`: the field is one of the 72 of the tables
 pub record Row (e : Entry) : Type 0 where
   pub known : List·Memᴰ (e .field) fields
   pub small : e .value < 2 ^ 64
   pub radio : e .field ≡ NID-RADIO → (k : ℕ) → k < 16 → Lettered (e .value / 16 ^ k % 16)
 
--- each of these is one
+-- every entry is a row
 abbrev pub Rows : List Entry → Type 0
 Rows [] = Unit
 Rows (e ∷ es) = Row e × Rows es
@@ -88,6 +89,28 @@ pub record ColumnGiven (text : List ℕ) (r : Refusal) : Type 0 where
 pub record SheetAccepted (text : List ℕ) (es : List Entry) : Type 0 where
   pub kept : Kept es
   pub is : text ≡ sheetText es
+
+-- ---- export and import
+
+-- "1 for a text output under 65,536 bytes .. in export the reader's", and the length of the sheet of what is accepted
+abbrev pub ExportGiven : List ℕ → ℕ → ℕ → Refusal → Type 0
+ExportGiven s n room r = RoomGiven 65536 room (BytesGiven s n) r
+
+abbrev pub ExportAccepted : List ℕ → ℕ → ℕ → List Entry → Type 0
+ExportAccepted s n room es = RoomAccepted 65536 room (BytesAccepted s n) es
+
+abbrev pub ExportedLength : List ℕ → ℕ → ℕ → ℕ → Type 0
+ExportedLength s n room size = (es : List Entry) × ExportAccepted s n room es × (size ≡ length (sheetText es))
+
+-- "in import a telegram output under 104", before all else; and n of the telegram that is accepted
+abbrev pub ImportGiven : List ℕ → ℕ → Refusal → Type 0
+ImportGiven text room r = RoomGiven 104 room (ColumnGiven text) r
+
+abbrev pub ImportRow : List ℕ → ℕ → ℕ → Type 0
+ImportRow text room k = (104 ≤ room) × RowGiven text k
+
+abbrev pub ImportedSize : List ℕ → ℕ → ℕ → Type 0
+ImportedSize text room n = (es : List Entry) × RoomAccepted 104 room (SheetAccepted text) es × (n ≡ bitCount es)
 
 -- a reply: it is done with something of this size, refused by this refusal, or by 20 at this row, just where it says so
 pub record Replies (Size : ℕ → Type 0) (Wrong : Refusal → Type 0) (Bad : ℕ → Type 0) (reply : Reply) : Type 0 where

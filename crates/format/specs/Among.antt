@@ -19,8 +19,8 @@ pub record PacketIn (es : List Entry) (id dir : ℕ) : Type 0 where
   pub after : List Entry
   pub parts : es ≡ before ++ holding NID-PACKET id ∷ holding Q-DIR dir ∷ after
 
--- The entries end inside a packet, or with it: what stands before it, the values of its identifier, Q_DIR and L_PACKET, and what was sent
--- of it after these. It is the last packet of its sort, for no identifier stands behind its own.
+-- The entries end inside a packet, or with it: what stands before it; the values of its identifier, Q_DIR and L_PACKET; and what was sent of it
+-- after these. It is the last packet of its sort, for no identifier stands behind its own. (Of entries that were sent before the end mark.)
 pub record Inside (id : Field) (es : List Entry) : Type 0 where
   pub before : List Entry
   pub name : ℕ

@@ -4,7 +4,10 @@ use mathlib.Core.Path.{_≡_, refl}
 use mathlib.Core.List.{List, [], _∷_, _++_, map}
 use Prim.Native.Nat.{ℕ}
 use Prim.Native.String.{String}
+use native.Mathlib.Omega.{arith}
 use lib.Dec.{eqb}
+use Rattle.format.specs.Among.{holding, Inside, sizeAt, takes, Fitting, Misfitting}
+use Rattle.format.specs.Fields.{Q-LINK, NID-PACKET, Q-DIR, L-PACKET}
 use Rattle.format.specs.Packets.{_⧺_, times, header, etcs, ctcs, find}
 use Rattle.format.specs.Refusals.{inNumbers}
 use Rattle.format.specs.Rules.{Terms, begun, next, misdirected, broken, noted, closes, settled, onward, step, radioFrom, spotOf, spotAt, placeFrom, fieldPlace, clash, among, collidesBy, paper}
@@ -120,6 +123,13 @@ end-mark-named : namesOf (written (front ++ (254 ∷ 2 ∷ 23 ∷ 255 ∷ [])))
     ≡ "Q_UPDOWN" ∷ "M_VERSION" ∷ "Q_MEDIA" ∷ "N_PIG" ∷ "N_TOTAL" ∷ "M_DUP" ∷ "M_MCOUNT" ∷ "NID_C" ∷ "NID_BG" ∷ "Q_LINK" ∷ "NID_PACKET" ∷ "Q_DIR" ∷ "L_PACKET" ∷ "END" ∷ []
 unfolding writtenBy
 end-mark-named = refl
+
+-- ETCS-254 behind a header's last field: its L_PACKET begins at bit 11, and it takes 23 bits; with one of 24 it does not fit
+abbrev defaultOf : (size : ℕ) → Inside NID-PACKET (holding Q-LINK 0 ∷ holding NID-PACKET 254 ∷ holding Q-DIR 2 ∷ holding L-PACKET size ∷ [])
+defaultOf size = record { before = holding Q-LINK 0 ∷ []; name = 254; dir = 2; size = size; after = []; parts = refl; own = tt }
+
+counted : (sizeAt (defaultOf 23) ≡ 11) × (takes (defaultOf 23) ≡ 23) × Fitting (defaultOf 23) × Misfitting (defaultOf 24)
+counted = (refl, refl, refl, λ (e : _≡_ {A = ℕ} 24 23). omega arith)
 
 fields-begin : placesOf (written (front ++ (254 ∷ 2 ∷ 23 ∷ 255 ∷ [])))
     ≡ 0 ∷ 1 ∷ 8 ∷ 9 ∷ 12 ∷ 15 ∷ 17 ∷ 25 ∷ 35 ∷ 49 ∷ 50 ∷ 58 ∷ 60 ∷ 73 ∷ []

@@ -6,6 +6,7 @@ use mathlib.Core.Path.{_≡_, refl, sym, ap, _∙_, subst}
 use Prim.Native.Nat.{ℕ, _≤_}
 use lib.ListN.{length}
 use Rattle.bits.specs.Bits.{Below}
+use Rattle.format.specs.Judges.{Judges}
 use Rattle.format.specs.Among.{holding}
 use Rattle.format.specs.Fields.{END}
 use Rattle.format.specs.Packets.{Items}
@@ -19,7 +20,7 @@ use Rattle.laws.proofs.Steps.{over-mark}
 use Rattle.laws.proofs.Points.{Sends}
 use Rattle.laws.proofs.Points.{Sends as sends}
 use Rattle.laws.proofs.Apart.{finished}
-use Rattle.states.proofs.Answers.{Judges, judges}
+use Rattle.states.proofs.Answers.{judges}
 use Rattle.given.specs.Broken.{Medium, Keeps, partIn}
 use Rattle.given.specs.Broken.Medium.{inBits, inValues}
 use Rattle.given.specs.Given.{Lawful, Given, Kept, Accepted}

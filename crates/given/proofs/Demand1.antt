@@ -35,7 +35,7 @@ use Rattle.laws.proofs.Pointed.{sends-at}
 use Rattle.laws.proofs.Offending.{offends}
 use Rattle.laws.proofs.Recalled.{sends-stands}
 use Rattle.laws.proofs.JustPointed.{read-refuses, write-refuses}
-use Rattle.given.specs.Broken.{Breaks, Medium, partIn, Hand, Broken}
+use Rattle.given.specs.Broken.{Breaks, Medium, partIn, NextIs, Broken}
 use Rattle.given.specs.Broken.Breaks.{four, six, seven, eight, nine, ten, twelve, thirteen}
 use Rattle.given.specs.Broken.Medium.{inBits, inValues}
 use Rattle.given.specs.Broken.Broken.{by-value, five, eleven}
@@ -122,7 +122,7 @@ module _ (m : Medium) {es : List Entry} {s : State} (left : List ℕ) (h : Sends
   points-first (trailing {v = v} {y = y} {ys = ys} e f) =
       let q = over-mark paper s v f in
       let i = given-hand m s v left (y ∷ ys) g e in
-      let hand = subst (λ (n : ℕ). Hand m (field s) left n (y ∷ ys)) (q .1) (i .0) in
+      let hand = subst (λ (n : ℕ). NextIs m (field s) left n (y ∷ ys)) (q .1) (i .0) in
       let wid : entry s v .field .width ≡ 8 = width-named (s .todo) v ∙ ap (λ (t : Items). due t .width) (q .0) in
       let at : bitCount es + 8 ≡ bitCount (es ++ (entry s v ∷ [])) = omega (arith, bits-more es (entry s v)) in (
         subst (λ (n : ℕ). Here Trailing n) at (eleven y ys (q .0) hand),
@@ -135,7 +135,7 @@ module _ (m : Medium) {es : List Entry} {s : State} (left : List ℕ) (h : Sends
   Pointing k x = Points paper (sourceIn m) es s left (record { kind = k; place = x })
 
   -- the value at hand, where neither 12 nor 13 is broken first
-  module _ (v : ℕ) (rest : List ℕ) (hand : Hand m (field s) left v rest) where
+  module _ (v : ℕ) (rest : List ℕ) (hand : NextIs m (field s) left v rest) where
     small-there : (k : Kind) → First k → 3 ≤ rank k → v < 2 ^ field s .width
     small-there k f r = by-test (ltb v (2 ^ field s .width)) refl
       where

@@ -15,7 +15,7 @@ use Rattle.format.specs.Telegrams.Taken.{got, lacks}
 use Rattle.format.specs.declared.Kind.the-variants.{Ended, Wide, Full}
 use Rattle.laws.proofs.Sources.{Sent, Listed, from-bits, from-values, bitsIn-entry}
 use Rattle.laws.proofs.Demand2.{length-bits}
-use Rattle.given.specs.Broken.{Medium, partIn, Hand, Ends}
+use Rattle.given.specs.Broken.{Medium, partIn, NextIs, Ends}
 use Rattle.given.specs.Broken.Medium.{inBits, inValues}
 
 abbrev pub sourceIn : Medium → State → List ℕ → Taken
@@ -46,7 +46,7 @@ sound-good inBits whole g es s left a e =
 sound-good inValues whole g es s left a e = tt
 
 -- a value that is given is at hand, and fits
-pub given-hand : (m : Medium) (s : State) (v : ℕ) (left ys : List ℕ) → GoodIn m s left → sourceIn m s left ≡ got v ys → Hand m (field s) left v ys × Fits s v
+pub given-hand : (m : Medium) (s : State) (v : ℕ) (left ys : List ℕ) → GoodIn m s left → sourceIn m s left ≡ got v ys → NextIs m (field s) left v ys × Fits s v
 unfolding valuesIn
 given-hand inBits s v left ys g e =
     let h = from-bits .taken s v left ys g e in
@@ -54,13 +54,13 @@ given-hand inBits s v left ys g e =
 given-hand inValues s v left ys g e = let h = from-values .taken s v left ys g e in (h .front, h .fits)
 
 -- a value that is at hand and fits is given
-pub hand-given : (m : Medium) (s : State) (v : ℕ) (left ys : List ℕ) → Hand m (field s) left v ys → Fits s v → sourceIn m s left ≡ got v ys
+pub hand-given : (m : Medium) (s : State) (v : ℕ) (left ys : List ℕ) → NextIs m (field s) left v ys → Fits s v → sourceIn m s left ≡ got v ys
 unfolding valuesIn
 hand-given inBits s v left ys h f = rw (h .1, ← (bitsIn-entry s v)) (from-bits .gives s v ys f)
 hand-given inValues s v left ys h f = rw h (from-values .gives s v ys f)
 
 -- where one is given, no other is at hand
-pub one-hand : (m : Medium) (s : State) (v u : ℕ) (left ys zs : List ℕ) → GoodIn m s left → sourceIn m s left ≡ got v ys → Hand m (field s) left u zs → u ≡ v
+pub one-hand : (m : Medium) (s : State) (v u : ℕ) (left ys zs : List ℕ) → GoodIn m s left → sourceIn m s left ≡ got v ys → NextIs m (field s) left u zs → u ≡ v
 one-hand inBits s v u left ys zs g e h =
     let f = given-hand inBits s v left ys g e .1 in
     let i = hand-given inBits s u left zs h (record { small = h .0; room = f .room }) in
@@ -92,7 +92,7 @@ lacks-ends inValues s (v ∷ vs) e = by-tests (ltb v (2 ^ field s .width)) (leb 
     by-tests false b h = cc
 
 -- 12
-pub wide-lacks : (m : Medium) (s : State) (v : ℕ) (left rest : List ℕ) → Hand m (field s) left v rest → 2 ^ field s .width ≤ v
+pub wide-lacks : (m : Medium) (s : State) (v : ℕ) (left rest : List ℕ) → NextIs m (field s) left v rest → 2 ^ field s .width ≤ v
     → sourceIn m s left ≡ lacks Wide
 unfolding fromValues
 wide-lacks inBits s v left rest h l = let i = h .0 in absurd (omega arith)
@@ -101,7 +101,7 @@ wide-lacks inValues s v left rest h l = rw (h, le-ltb v (2 ^ field s .width) l)
 pub record Wider (m : Medium) (s : State) (left : List ℕ) : Type 0 where
   pub value : ℕ
   pub rest : List ℕ
-  pub hand : Hand m (field s) left value rest
+  pub hand : NextIs m (field s) left value rest
   pub wide : 2 ^ field s .width ≤ value
 
 pub lacks-wide : (m : Medium) (s : State) (left : List ℕ) → sourceIn m s left ≡ lacks Wide → Wider m s left
@@ -123,7 +123,7 @@ lacks-wide inValues s (v ∷ vs) e = by-tests (ltb v (2 ^ field s .width)) (leb 
 pub record Fuller (m : Medium) (s : State) (left : List ℕ) : Type 0 where
   pub value : ℕ
   pub rest : List ℕ
-  pub hand : Hand m (field s) left value rest
+  pub hand : NextIs m (field s) left value rest
   pub small : value < 2 ^ field s .width
   pub full : 830 < past s
 
@@ -143,7 +143,7 @@ lacks-full inValues s (v ∷ vs) e = by-tests (ltb v (2 ^ field s .width)) (leb 
     by-tests false b i j h = let z : _≡_ {A = ℕ} 0 1 = cc in absurd (omega arith)
 
 -- where a value is at hand that fits, and the field ends past bit 830
-pub full-source : (m : Medium) (s : State) (v : ℕ) (left rest : List ℕ) → GoodIn m s left → Hand m (field s) left v rest → v < 2 ^ field s .width
+pub full-source : (m : Medium) (s : State) (v : ℕ) (left rest : List ℕ) → GoodIn m s left → NextIs m (field s) left v rest → v < 2 ^ field s .width
     → 830 < past s
     → sourceIn m s left ≡ lacks Full
 unfolding fromValues

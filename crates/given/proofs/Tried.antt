@@ -1,23 +1,26 @@
--- The rules tried: two refusals made by hand from the rules alone, and one of each number from 4 to 13 that the checker computes. Assumes nothing.
+-- The rules tried: two refusals made by hand from the rules alone; one of each number from 4 to 13, and telegrams that are accepted, by what the checker
+-- computes. Assumes nothing.
 use mathlib.Core.List.{List, [], _∷_, map}
 use mathlib.Core.Path.{_≡_, refl}
 use Prim.Native.Nat.{ℕ, zero, suc, _≤_}
 use native.Mathlib.Omega.{arith}
+use Rattle.format.specs.Refusals.{numberOf}
 use Rattle.format.specs.Packets.{_⧺_, times, header, etcs, ctcs, find}
 use Rattle.format.specs.Rules.{begun, next, misdirected, broken, noted, closes, settled, onward, step, radioFrom, clash, among, spotOf, spotAt, placeFrom, fieldPlace, collidesBy, paper}
-use Rattle.format.specs.Telegrams.{fromValues, drive, write}
+use Rattle.format.specs.Telegrams.{Entry, fromValues, drive, write}
 use Rattle.format.specs.Telegrams.Result.{refused}
 use Rattle.format.specs.declared.Kind.{Kind}
-use Rattle.format.specs.declared.Kind.the-variants.{Header, Ended, Unknown, Value, Length, Direction, Repeated, Trailing, Wide, Full}
+use Rattle.format.specs.declared.Kind.the-variants.{Room, Size, Padding, Header, Ended, Unknown, Value, Length, Direction, Repeated, Trailing, Wide, Full}
 use Rattle.format.specs.declared.Refusal.{Refusal}
 use Rattle.given.specs.Broken.{Broken}
 use Rattle.given.specs.Broken.HeaderBroken.{updown}
 use Rattle.given.specs.Broken.Breaks.{four, six, seven, eight, nine, ten, twelve, thirteen}
 use Rattle.given.specs.Broken.Broken.{by-value, five, eleven}
 use Rattle.given.specs.Broken.Medium.{inValues}
-use Rattle.given.specs.Given.{Given, rank}
+use Rattle.given.specs.Given.{Given, Accepted, rank}
 use Rattle.given.specs.Given.Lawful.{nothing}
 use Rattle.given.proofs.Demand1.{broken-rank, write-given}
+use Rattle.given.proofs.Accepted.{write-judged}
 
 -- ---- by hand
 
@@ -94,3 +97,14 @@ all-given (c ∷ cs) e = (write-given (c .of) (c .refusal) .0 (cc), all-given cs
 
 tried : AllGiven claims
 tried = all-given claims computed
+
+-- the numbers of the kinds
+numbered : map numberOf
+    (Room ∷ Size ∷ Padding ∷ Header ∷ Ended ∷ Unknown ∷ Value ∷ Length ∷ Direction ∷ Repeated ∷ Trailing ∷ Wide ∷ Full ∷ [])
+    ≡ 1 ∷ 2 ∷ 3 ∷ 4 ∷ 5 ∷ 6 ∷ 7 ∷ 8 ∷ 9 ∷ 10 ∷ 11 ∷ 12 ∷ 13 ∷ []
+numbered = refl
+
+-- case 1 is accepted
+case-1 : (es : List Entry) × Accepted inValues (after (255 ∷ [])) es
+unfolding write drive begun fromValues step next find etcs ctcs header times _⧺_ broken misdirected noted settled onward closes
+case-1 = (_, write-judged (after (255 ∷ [])) .accepts _ .0 refl)

@@ -1,6 +1,12 @@
--- docs/RULES.md, "Refusal numbers", "Header", "Allowed values", "Packets that collide" and "Place": when each of the rules 4 to 13 is broken, and the place
--- that it gives. Said over the entries that were sent before (es), what is left to send of the header or the packet in hand (t, by which the tables
--- tell the field that is due) and its value, or what is left of the bits or values. Definitions alone: nothing here says how an answer is made.
+-- docs/RULES.md, "Refusal numbers", "Header", "Allowed values", "Packets that collide" and "Place": when each of the rules 4 to 13 is broken, number by number,
+-- and the place that it gives. Definitions alone: nothing here says how an answer is made.
+--
+--     es     the fields that were sent so far, each with its value
+--     t      what the tables still want of this header or packet; `due t` is the next field, `next t v` what they want behind it
+--     v      the value of that field
+--     left   the bits, or values, that are not used yet
+--
+-- The tables themselves are taken as they stand in `format` (Fields, Packets): the widths, and what each packet sends.
 use mathlib.Core.List.{List, [], _∷_, _++_}
 use mathlib.Core.Logic.{_⊎_}
 use mathlib.Core.Option.{some}
@@ -39,12 +45,12 @@ abbrev pub partIn : Medium → Entry → List ℕ
 partIn inBits e = bitsIn e
 partIn inValues e = valuesIn e
 
--- for the field f this value is at hand, and the rest is left behind it
-abbrev pub Hand : Medium → Field → List ℕ → ℕ → List ℕ → Type 0
-Hand inBits f left v rest = (v < 2 ^ f .width) × (left ≡ digits (f .width) v ++ rest)
-Hand inValues f left v rest = left ≡ v ∷ rest
+-- the next value, for the field f, is v, and the rest comes behind it
+abbrev pub NextIs : Medium → Field → List ℕ → ℕ → List ℕ → Type 0
+NextIs inBits f left v rest = (v < 2 ^ f .width) × (left ≡ digits (f .width) v ++ rest)
+NextIs inValues f left v rest = left ≡ v ∷ rest
 
--- "5: the bits, or the values, end inside a field or before the end mark": for the field that is due there are fewer bits left than it has, or no value
+-- "5: the bits, or the values, end inside a field or before the end mark": fewer bits are left than the next field has, or no value is
 abbrev pub Ends : Medium → Field → List ℕ → Type 0
 Ends inBits f left = length left < f .width
 Ends inValues f left = left ≡ []
@@ -81,7 +87,7 @@ pub data Range : Field → ℕ → ℕ → Type 0 where
   nid-frequency : Range NID-FREQUENCY 0 12
   q-stop : Range Q-STOP 0 0
 
--- the 4-bit place of a number that has so many places behind it
+-- the 4-bit place j from the right, counted from 0
 abbrev pub hex : ℕ → ℕ → ℕ
 hex v j = v / 16 ^ j % 16
 
@@ -100,16 +106,16 @@ pub data Disallowed : Field → ℕ → Type 0 where
 
 -- ---- 8
 
--- "8: L_PACKET is not the number of bits its packet takes", where the entries end with a packet: its entries, counted from its identifier, have another number
--- of bits than its L_PACKET says. With the bit where that L_PACKET begins: that of the CTCS packet, which stands behind the L_PACKET of the
--- packet around it; or else that of the packet, "the inner packet before its ETCS-44"
+-- "8: L_PACKET is not the number of bits its packet takes", where the entries end with a packet: its entries, from its identifier on, have another number
+-- of bits than its L_PACKET says. "The inner packet before its ETCS-44": inner, the CTCS packet's L_PACKET is wrong; outer, that one is right or there
+-- is none, and the packet's own is wrong. With the bit where the wrong L_PACKET begins; an inner one stands behind the outer one's 13 bits
 pub data Misfits (es : List Entry) : ℕ → Type 0 where
   inner : (o : Inside NID-PACKET es) (h : Inside NID-XUSER (o .after)) → Misfitting h → Misfits es (sizeAt o + L-PACKET .width + sizeAt h)
   outer : (o : Inside NID-PACKET es) → ((h : Inside NID-XUSER (o .after)) → Fitting h) → Misfitting o → Misfits es (sizeAt o)
 
 -- ---- 9
 
--- "9: a CTCS packet's Q_DIR differs from that of its ETCS-44": the Q_DIR that is due stands right behind a NID_XUSER, in the ETCS-44 o
+-- "9: a CTCS packet's Q_DIR differs from that of its ETCS-44": the next field is a Q_DIR right behind a NID_XUSER, in the ETCS-44 o
 pub data Differs (es : List Entry) : Field → ℕ → Type 0 where
   differs : {v : ℕ} (o : Inside NID-PACKET es) (b : List Entry) (user : ℕ) → o .name ≡ 44 → es ≡ b ++ (holding NID-XUSER user ∷ [])
       → (v ≡ o .dir → ⊥) → Differs es Q-DIR v
@@ -120,16 +126,16 @@ pub data Differs (es : List Entry) : Field → ℕ → Type 0 where
 abbrev pub Collide : ℕ → ℕ → Type 0
 Collide d e = (d ≡ e) ⊎ ((d ≡ 2) ⊎ (e ≡ 2))
 
--- "10: a second packet, other than ETCS-44, has the NID_PACKET .. of an earlier one", and a Q_DIR that collides with its Q_DIR: the Q_DIR that is due
--- stands right behind a NID_PACKET, and before that a packet with the same NID_PACKET
+-- "10: a second packet, other than ETCS-44, has the NID_PACKET .. of an earlier one", and a Q_DIR that collides with its Q_DIR: the next field is a Q_DIR
+-- right behind a NID_PACKET, before which a packet with the same NID_PACKET stands
 pub data Repeats (es : List Entry) : Field → ℕ → Type 0 where
-  repeats : {v : ℕ} (b : List Entry) (id other : ℕ) → es ≡ b ++ (holding NID-PACKET id ∷ []) → (id ≡ 44 → ⊥) → PacketIn b id other
-      → Collide v other → Repeats es Q-DIR v
+  repeats : {v : ℕ} (b : List Entry) (id dir : ℕ) → es ≡ b ++ (holding NID-PACKET id ∷ []) → (id ≡ 44 → ⊥) → PacketIn b id dir
+      → Collide v dir → Repeats es Q-DIR v
 
 -- ---- by a value: 4, 6 to 10, 12 and 13
 
--- The value v for the field that is due breaks a rule: its kind, and its place, "the bit where the offending field begins; for 8 that is the L_PACKET
--- field"
+-- The value v breaks a rule: its kind, and its place, "the bit where the offending field begins; for 8 that is the L_PACKET field". Several can be broken by one
+-- value, as 7 and 10 by a Q_DIR of 3 behind a packet for both ways, or 6 and 8 by a CTCS-6; which of them is told is a matter of their order (Given)
 pub data Breaks (es : List Entry) (t : Items) (v : ℕ) : Kind → ℕ → Type 0 where
   four : HeaderBroken es (due t) v → Breaks es t v Header (bitCount es)
   six : Unlisted (due t) v → Breaks es t v Unknown (bitCount es)
@@ -140,7 +146,7 @@ pub data Breaks (es : List Entry) (t : Items) (v : ℕ) : Kind → ℕ → Type 
   ten : Repeats es (due t) v → Breaks es t v Repeated (bitCount es)
   -- "12: writer: a value does not fit its field's width"
   twelve : 2 ^ due t .width ≤ v → Breaks es t v Wide (bitCount es)
-  -- "13: writer: the field would end past bit 830" (so would a reader's, and no more than 830 bits are read)
+  -- "13: writer: the field would end past bit 830". A reader never breaks it: no more than 830 bits are read, so that such a field breaks 5
   thirteen : 830 < bitCount es + due t .width → Breaks es t v Full (bitCount es)
 
 -- it breaks none
@@ -150,8 +156,8 @@ Keeps es t v = (k : Kind) (x : ℕ) → Breaks es t v k x → ⊥
 -- ---- with so much left of the bits or values: these, 5 and 11
 
 pub data Broken (m : Medium) (es : List Entry) (t : Items) (left : List ℕ) : Kind → ℕ → Type 0 where
-  by-value : (v : ℕ) (rest : List ℕ) {k : Kind} {x : ℕ} → Hand m (due t) left v rest → Breaks es t v k x → Broken m es t left k x
+  by-value : (v : ℕ) (rest : List ℕ) {k : Kind} {x : ℕ} → NextIs m (due t) left v rest → Breaks es t v k x → Broken m es t left k x
   -- "for 5 the field that couldn't be finished"
   five : Ends m (due t) left → Broken m es t left Ended (bitCount es)
   -- "11: bits, or values, follow the end mark": "for 11 the first bit past the end mark"
-  eleven : (y : ℕ) (rest : List ℕ) → t ≡ end → Hand m (due t) left 255 (y ∷ rest) → Broken m es t left Trailing (bitCount es + 8)
+  eleven : (y : ℕ) (rest : List ℕ) → t ≡ end → NextIs m (due t) left 255 (y ∷ rest) → Broken m es t left Trailing (bitCount es + 8)

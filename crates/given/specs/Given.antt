@@ -17,16 +17,15 @@ use Rattle.given.specs.Broken.{Keeps, Medium, partIn, Broken}
 
 -- ---- a lawful beginning
 
--- Entries that begin a telegram, each of which keeps every rule, with what is left to send of the header or the packet in hand (the tables alone
--- say what comes next)
+-- Fields with their values that begin a telegram, each of which keeps every rule, and what the tables still want of the header or packet in hand
 pub data Lawful : List Entry → Items → Type 0 where
   nothing : Lawful [] header
   one-more : {es : List Entry} {t u : Items} (v : ℕ) → Lawful es t → Keeps es t v → next t v ≡ some u → Lawful (es ++ (holding (named t v) v ∷ [])) u
 
 -- ---- which refusal is given
 
--- "At one field: 5, 12, 13, then 4, 6 or 7, then 9 (inner Q_DIR) or 10 (outer Q_DIR). 8 is tested after a packet's last field" (1 to 3 come before any
--- field, and 11 after the last)
+-- "At one field: 5, 12, 13, then 4, 6 or 7, then 9 (inner Q_DIR) or 10 (outer Q_DIR). 8 is tested after a packet's last field"; 11 comes behind the last. (1 to
+-- 3 are never broken at a field)
 abbrev pub rank : Kind → ℕ
 rank Room = 0
 rank Size = 0
@@ -42,8 +41,8 @@ rank Repeated = 5
 rank Length = 6
 rank Trailing = 7
 
--- The rule of this refusal is broken first: every entry before keeps every rule, and is what stands in front; at the field that is due then it is
--- broken and gives this place, and none that comes before it in the order is broken.
+-- The rule of this refusal is broken first: all fields before keep every rule, and their bits or values are the front of the whole; the next field breaks this
+-- rule, at this place, and no rule that comes before it in the order.
 pub record Given (m : Medium) (whole : List ℕ) (r : Refusal) : Type 0 where
   pub sent : List Entry
   pub todo : Items

@@ -17,6 +17,7 @@ use Rattle.bits.specs.Bits.{digits, valueOf, bitsOf, bytesFor, Below}
 use Rattle.bits.proofs.Digits.{length-digits}
 use Rattle.bits.proofs.Bytes.{below-bitsOf, below-take, length-bitsOf}
 use Rattle.format.specs.Fields.Rule.{size}
+use Rattle.format.specs.Judges.{Judges}
 use Rattle.format.specs.Refusals.{numberOf}
 use Rattle.format.specs.Rules.{Terms, State, begun, field, past, next, broken, onward, verdict, step}
 use Rattle.format.specs.Rules.Next.{breaks}
@@ -35,15 +36,6 @@ use Rattle.laws.proofs.Order.{of-value-number, onward-breaks, broken-of-value, 
 use Rattle.format.specs.declared.Answer.the-variants as Answers
 
 -- ---- which number is given when
-
--- an answer judges: it accepts just what is Right and refuses just what is Wrong; so one of the two is found, never two, and never both
-pub record Judges (Right : List Entry → Type 0) (Wrong : Refusal → Type 0) (answer : Result) : Type 0 where
-  pub accepts : (es : List Entry) → (answer ≡ accepted es) ↔ Right es
-  pub refuses : (r : Refusal) → (answer ≡ refused r) ↔ Wrong r
-  pub found : ((es : List Entry) × Right es) ⊎ ((r : Refusal) × Wrong r)
-  pub never-both : (es : List Entry) (r : Refusal) → Right es → Wrong r → ⊥
-  pub one-right : (es fs : List Entry) → Right es → Right fs → es ≡ fs
-  pub one-wrong : (r q : Refusal) → Wrong r → Wrong q → r ≡ q
 
 module _ (Right : List Entry → Type 0) (Wrong : Refusal → Type 0) where
   one-of : (answer : Result) → ((es : List Entry) → answer ≡ accepted es → Right es) → ((r : Refusal) → answer ≡ refused r → Wrong r)
