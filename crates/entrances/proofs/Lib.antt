@@ -1,4 +1,4 @@
--- Every entry point of one telegram refuses and accepts just as the rules say.
+-- Every entry point refuses and accepts just as the rules say.
 pub mod Lifted
 pub mod Bytes
 pub mod Calls
@@ -8,5 +8,7 @@ pub mod Sheets
 pub mod Names
 pub mod Rows
 pub mod Replying
+pub mod Judging
 pub mod RoundTrips
+pub mod Groups
 pub mod Worked

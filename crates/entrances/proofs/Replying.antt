@@ -3,7 +3,7 @@ use mathlib.Core.Bool.{Bool, true, false, cond}
 use mathlib.Core.List.{List}
 use mathlib.Core.Logic.{_↔_}
 use mathlib.Core.Option.{Option, some, none}
-use mathlib.Core.Path.{_≡_, refl, sym, ap, _∙_}
+use mathlib.Core.Path.{_≡_, refl, sym, _∙_}
 use Prim.Native.Nat.{ℕ}
 use native.Mathlib.Omega.{arith}
 use borrow.Author.Tests.{leb-true, leb-false, le-leb, lt-leb}
@@ -11,7 +11,7 @@ use lib.Dec.{leb}
 use lib.ListN.{length}
 use Rattle.format.specs.Judges.{Judges}
 use Rattle.format.specs.Rules.{paper}
-use Rattle.format.specs.Telegrams.{Entry, Result, values, bitCount, write}
+use Rattle.format.specs.Telegrams.{Entry, Result, values, write}
 use Rattle.format.specs.Telegrams.Result.{accepted, refused}
 use Rattle.format.specs.declared.Kind.the-variants.{Room}
 use Rattle.format.specs.declared.Refusal.{Refusal}
@@ -73,7 +73,7 @@ named-not : {A : Type 0} (o : Option ℕ) (es : List Entry) (r : Refusal) → na
 named-not none es r e = let z : _≡_ {A = ℕ} 0 1 = cc in absurd (omega arith)
 named-not (some k) es r e = let z : _≡_ {A = ℕ} 0 1 = cc in absurd (omega arith)
 
-judged-refused : (ks : List ℕ) (a : Result) (r : Refusal) → (judged ks a ≡ refusedBy r) ↔ (a ≡ refused r)
+pub judged-refused : (ks : List ℕ) (a : Result) (r : Refusal) → (judged ks a ≡ refusedBy r) ↔ (a ≡ refused r)
 judged-refused ks (accepted es) r = (λ e. named-not (otherName 0 ks (numbers es)) es r e, λ e. cc)
 judged-refused ks (refused q) r = (λ e. cc, λ e. cc)
 
@@ -134,12 +134,12 @@ module _ (text : List ℕ) (room : ℕ) where
   done-is (refusedBy r) e size h = let z : _≡_ {A = ℕ} 0 1 = cc in absurd (omega arith)
   done-is (refusedAt k) e size h = let z : _≡_ {A = ℕ} 0 1 = cc in absurd (omega arith)
 
-refused-is : (b : Imported) (r : Refusal) → (sizeOf b ≡ Refused r) ↔ (b ≡ refusedBy r)
+pub refused-is : (b : Imported) (r : Refusal) → (sizeOf b ≡ Refused r) ↔ (b ≡ refusedBy r)
 refused-is (taken es) r = (λ e. cc, λ e. cc)
 refused-is (refusedBy q) r = (λ e. cc, λ e. cc)
 refused-is (refusedAt k) r = (λ e. cc, λ e. cc)
 
-row-is : (b : Imported) (k : ℕ) → (sizeOf b ≡ Row k) ↔ (b ≡ refusedAt k)
+pub row-is : (b : Imported) (k : ℕ) → (sizeOf b ≡ Row k) ↔ (b ≡ refusedAt k)
 row-is (taken es) k = (λ e. cc, λ e. cc)
 row-is (refusedBy q) k = (λ e. cc, λ e. cc)
 row-is (refusedAt j) k = (λ e. cc, λ e. cc)

@@ -1,5 +1,5 @@
--- docs/RULES.md, "Refusal numbers": which refusal each entry point of one telegram gives, and what it accepts, for every number. "Order: 1, then (reader and
--- normaliser) 2, 3, then field by field, the first broken rule wins". Definitions alone. (That a refusal leaves what is lent as it was is `read-keeps`,
+-- docs/RULES.md, "Refusal numbers": which refusal each entry point gives, and what it accepts, for every number. "Order: 1, then (reader and normaliser)
+-- 2, 3, then field by field, the first broken rule wins". Definitions alone. (That a refusal leaves what is lent as it was is `read-keeps`,
 -- `write-keeps` and so on, `states`, proofs/Leaving.)
 use mathlib.Core.List.{List}
 use mathlib.Core.Logic.{_↔_}

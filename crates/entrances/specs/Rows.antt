@@ -10,6 +10,7 @@ use lib.ListN.{length}
 use Rattle.format.specs.Fields.{fields, NID-RADIO}
 use Rattle.format.specs.Telegrams.{Entry, names, values, bitCount}
 use Rattle.format.specs.declared.Refusal.{Refusal}
+use Rattle.states.specs.Labels.{numbers}
 use Rattle.sheet.specs.Rows.{heading, rowText, sheetText}
 use Rattle.sheet.specs.declared.Reply.{Reply}
 use Rattle.sheet.specs.declared.Reply.the-variants as replies
@@ -111,6 +112,32 @@ ImportRow text room k = (104 ≤ room) × RowGiven text k
 
 abbrev pub ImportedSize : List ℕ → ℕ → ℕ → Type 0
 ImportedSize text room n = (es : List Entry) × RoomAccepted 104 room (SheetAccepted text) es × (n ≡ bitCount es)
+
+-- ---- rows that were read, as two columns: the numbers of their fields, and their values
+
+-- the first row with another number than that of the field due there, as far as both columns go
+pub record OtherNumber (rows due : List ℕ) (k : ℕ) : Type 0 where
+  pub above : List ℕ
+  pub one : ℕ
+  pub below : List ℕ
+  pub is : rows ≡ above ++ (one ∷ below)
+  pub wanted : ℕ
+  pub after : List ℕ
+  pub has : due ≡ above ++ (wanted ∷ after)
+  pub other : one ≡ wanted → ⊥
+  pub number : k ≡ suc (length above)
+
+-- 1 and the writer's are those of the writer; then 20
+abbrev pub JudgeRow : List ℕ → List ℕ → ℕ → ℕ → Type 0
+JudgeRow ks vs room k = (104 ≤ room) × ((es : List Entry) × Accepted inValues vs es × OtherNumber ks (numbers es) k)
+
+-- n of the telegram with these values, where no row has another number
+pub record Agreed (ks vs : List ℕ) (es : List Entry) : Type 0 where
+  pub accepted : Accepted inValues vs es
+  pub agree : (k : ℕ) → OtherNumber ks (numbers es) k → ⊥
+
+abbrev pub JudgedSize : List ℕ → List ℕ → ℕ → ℕ → Type 0
+JudgedSize ks vs room n = (es : List Entry) × RoomAccepted 104 room (Agreed ks vs) es × (n ≡ bitCount es)
 
 -- a reply: it is done with something of this size, refused by this refusal, or by 20 at this row, just where it says so
 pub record Replies (Size : ℕ → Type 0) (Wrong : Refusal → Type 0) (Bad : ℕ → Type 0) (reply : Reply) : Type 0 where

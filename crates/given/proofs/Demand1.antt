@@ -20,7 +20,7 @@ use Rattle.format.specs.Telegrams.{Entry, entry, bitCount, read, write}
 use Rattle.format.specs.Telegrams.Result.{refused}
 use Rattle.format.specs.Telegrams.Taken.{got, lacks}
 use Rattle.format.specs.declared.Kind.{Kind}
-use Rattle.format.specs.declared.Kind.the-variants.{Header, Ended, Unknown, Value, Length, Direction, Repeated, Trailing, Wide, Full}
+use Rattle.format.specs.declared.Kind.the-variants.{Header, Unknown, Value, Length, Direction, Repeated, Trailing, Wide, Full}
 use Rattle.format.specs.declared.Refusal.{Refusal}
 use Rattle.laws.proofs.Steps.{Stepped, stepped, over-mark}
 use Rattle.laws.proofs.Steps.Settled.{on, closed, misfitted}

@@ -4,7 +4,7 @@ use mathlib.Core.Path.{_≡_, refl, sym, ap, _∙_, subst}
 use Prim.Native.Nat.{ℕ}
 use native.Mathlib.Omega.{arith}
 use Rattle.format.specs.Among.{holding, Without, Inside, Fitting}
-use Rattle.format.specs.Fields.{Field, NID-PACKET, NID-XUSER, Q-DIR, L-PACKET}
+use Rattle.format.specs.Fields.{Field, Q-DIR, L-PACKET}
 use Rattle.format.specs.Telegrams.{Entry, bitCount}
 use Rattle.laws.proofs.OnePlace.{Other, not-among, one-packet}
 use Rattle.laws.proofs.Pairs.{one-end}
