@@ -6,29 +6,24 @@ use mathlib.Core.Option.{Option, some, none}
 use mathlib.Core.Path.{_≡_, refl, sym, ap, _∙_, subst}
 use Prim.Native.Nat.{ℕ, suc, _+_}
 use native.Mathlib.Omega.{arith}
-use borrow.Author.Tests.{leb-true, leb-false, le-leb, lt-leb, eqb-true, eqb-false, ne-eqb, eq-eqb}
-use lib.Dec.{eqb, leb}
+use borrow.Author.Tests.{eqb-true, eqb-false, ne-eqb, eq-eqb}
+use lib.Dec.{eqb}
 use lib.ListN.{length}
 use Rattle.format.specs.Rules.{paper}
 use Rattle.format.specs.Telegrams.{Entry, Result, write}
 use Rattle.format.specs.Telegrams.Result.{accepted, refused}
-use Rattle.format.specs.declared.Kind.the-variants.{Room}
-use Rattle.format.specs.declared.Refusal.{Refusal}
 use Rattle.states.specs.Labels.{numbers}
-use Rattle.states.specs.Reader.{early}
-use Rattle.sheet.specs.Sheets.{Imported, otherName, named, judged, sizeOf}
-use Rattle.sheet.specs.Sheets.Imported.{taken, refusedBy, refusedAt}
+use Rattle.sheet.specs.Sheets.{otherName, named, judged}
+use Rattle.sheet.specs.Sheets.Imported.{taken, refusedAt}
 use Rattle.sheet.specs.Steps.{columnsInto, Judged}
 use Rattle.sheet.specs.declared.Reply.{Reply}
-use Rattle.sheet.specs.declared.Reply.the-variants.{Done}
 use Rattle.sheet.proofs.Numbers.{judge-answer}
 use Rattle.given.specs.Broken.Medium.{inValues}
 use Rattle.given.specs.Given.{Accepted}
 use Rattle.given.proofs.Accepted.{write-judged}
-use Rattle.entrances.specs.Entrances.{RoomAccepted, WriteGiven}
-use Rattle.entrances.specs.Entrances.RoomGiven.{one, otherwise}
+use Rattle.entrances.specs.Entrances.{WriteGiven}
 use Rattle.entrances.specs.Rows.{OtherNumber, JudgeRow, Agreed, JudgedSize, Replies}
-use Rattle.entrances.proofs.Replying.{judged-refused, refused-is, row-is}
+use Rattle.entrances.proofs.Replying.{judged-refused, judging-replies}
 
 -- ---- the first row with another number
 
@@ -85,7 +80,7 @@ other-number-is ks ds k = (
       rw (o .is, o .has) (found 0 (o .above) (o .one) (o .wanted) (o .below) (o .after) (o .other)) ∙ ap some (sym c),
 )
 
--- ---- before the test of room
+-- ---- what the writer and then the numbers say
 
 module _ (ks vs : List ℕ) where
   row-of : (k : ℕ) (b : Result) → write paper vs ≡ b → judged ks b ≡ refusedAt k
@@ -122,51 +117,17 @@ module _ (ks vs : List ℕ) where
       by-name none q = refl
       by-name (some k) q = absurd (w .agree k (other-number-is ks (numbers es) k .0 q))
 
--- ---- the reply
-
-module _ (ks vs : List ℕ) (room : ℕ) where
-  abbrev By : Bool → Imported
-  By b = cond b (judged ks (write paper vs)) (refusedBy (early Room))
-
-  by-room : (b : Bool) → leb 104 room ≡ b → (r : Refusal) → By b ≡ refusedBy r → WriteGiven vs room r
-  by-room true e r h = otherwise (leb-true 104 room e) (write-judged vs .refuses r .0 (judged-refused ks (write paper vs) r .0 h))
-  by-room false e r h = let i : early Room ≡ r = cc in rw (← i) (one (leb-false 104 room e))
-
-  in-room : {r : Refusal} → WriteGiven vs room r → By (leb 104 room) ≡ refusedBy r
-  in-room (one l) = rw (lt-leb 104 room l)
-  in-room (otherwise {r = r} l o) = rw (le-leb 104 room l) (judged-refused ks (write paper vs) r .1 (write-judged vs .refuses r .1 o))
-
-  row-by : (b : Bool) → leb 104 room ≡ b → (k : ℕ) → By b ≡ refusedAt k → JudgeRow ks vs room k
-  row-by true e k h = (leb-true 104 room e, row-of ks vs k (write paper vs) refl h)
-  row-by false e k h = let z : _≡_ {A = ℕ} 0 1 = cc in absurd (omega arith)
-
-  taken-by : (b : Bool) → leb 104 room ≡ b → (es : List Entry) → By b ≡ taken es → RoomAccepted 104 room (Agreed ks vs) es
-  taken-by true e es h = record { enough = leb-true 104 room e; accepted = agreed-of ks vs es (write paper vs) refl h }
-  taken-by false e es h = let z : _≡_ {A = ℕ} 0 1 = cc in absurd (omega arith)
-
-  done-by : (b : Imported) → By (leb 104 room) ≡ b → (n : ℕ) → sizeOf b ≡ Done n → JudgedSize ks vs room n
-  done-by (taken es) e n h = (es, taken-by (leb 104 room) refl es e, cc)
-  done-by (refusedBy r) e n h = let z : _≡_ {A = ℕ} 0 1 = cc in absurd (omega arith)
-  done-by (refusedAt k) e n h = let z : _≡_ {A = ℕ} 0 1 = cc in absurd (omega arith)
-
 pub judge-replies : {ks vs before after : List ℕ} {reply : Reply} → Judged ks vs before reply after
     → Replies (JudgedSize ks vs (length before)) (WriteGiven vs (length before)) (JudgeRow ks vs (length before)) reply
 unfolding columnsInto
 judge-replies {ks} {vs} {before} {after} {reply} h =
-    let i = judge-answer h in
-    let room = length before in
-    let b = By ks vs room (leb 104 room) in
-    record {
-      done = λ n. (
-        λ e. done-by ks vs room b refl n (sym i ∙ e),
-        λ w. i ∙ rw (le-leb 104 room (w .1 .enough), of-agreed ks vs (w .0) (w .1 .accepted), w .2),
-      );
+    judging-replies
+    (record {
+      takes = λ es. (agreed-of ks vs es (write paper vs) refl, of-agreed ks vs es);
       refuses = λ r. (
-        λ e. by-room ks vs room (leb 104 room) refl r (refused-is b r .0 (sym i ∙ e)),
-        λ w. i ∙ refused-is b r .1 (in-room ks vs room w),
+        λ e. write-judged vs .refuses r .0 (judged-refused ks (write paper vs) r .0 e),
+        λ g. judged-refused ks (write paper vs) r .1 (write-judged vs .refuses r .1 g),
       );
-      rows = λ k. (
-        λ e. row-by ks vs room (leb 104 room) refl k (row-is b k .0 (sym i ∙ e)),
-        λ w. i ∙ row-is b k .1 (rw (le-leb 104 room (w .0)) (of-row ks vs k (w .1))),
-      );
-    }
+      rows = λ k. (row-of ks vs k (write paper vs) refl, of-row ks vs k);
+    })
+    (length before) reply (judge-answer h)

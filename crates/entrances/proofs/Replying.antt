@@ -4,14 +4,14 @@ use mathlib.Core.List.{List}
 use mathlib.Core.Logic.{_↔_}
 use mathlib.Core.Option.{Option, some, none}
 use mathlib.Core.Path.{_≡_, refl, sym, _∙_}
-use Prim.Native.Nat.{ℕ}
+use Prim.Native.Nat.{ℕ, _≤_}
 use native.Mathlib.Omega.{arith}
 use borrow.Author.Tests.{leb-true, leb-false, le-leb, lt-leb}
 use lib.Dec.{leb}
 use lib.ListN.{length}
 use Rattle.format.specs.Judges.{Judges}
 use Rattle.format.specs.Rules.{paper}
-use Rattle.format.specs.Telegrams.{Entry, Result, values, write}
+use Rattle.format.specs.Telegrams.{Entry, Result, values, bitCount, write}
 use Rattle.format.specs.Telegrams.Result.{accepted, refused}
 use Rattle.format.specs.declared.Kind.the-variants.{Room}
 use Rattle.format.specs.declared.Refusal.{Refusal}
@@ -27,13 +27,13 @@ use Rattle.sheet.specs.declared.Reply.the-variants.{Done, Refused, Row}
 use Rattle.sheet.proofs.Back.{sheet-back, only-sheets}
 use Rattle.sheet.proofs.Numbers.{export-answer, import-answer}
 use Rattle.given.proofs.Accepted.{kept-is, write-judged}
-use Rattle.entrances.specs.Entrances.{RoomAccepted}
+use Rattle.entrances.specs.Entrances.{RoomGiven, RoomAccepted}
 use Rattle.entrances.specs.Entrances.RoomGiven.{one, otherwise}
 use Rattle.entrances.specs.Rows.{ColumnGiven, SheetAccepted, ExportGiven, ExportAccepted, ExportedLength, ImportGiven, ImportRow, ImportedSize, Replies}
 use Rattle.entrances.proofs.Lifted.{room-judged}
 use Rattle.entrances.proofs.Bytes.{check-judged}
 use Rattle.entrances.proofs.Sheets.{sheet-rows}
-use Rattle.entrances.proofs.Rows.{import-row}
+use Rattle.entrances.proofs.Rows.{imported-row}
 
 -- ---- export
 
@@ -67,7 +67,63 @@ export-replies {s} {n} {before} {after} {reply} h =
       rows = λ k. (λ e. no-row a k (sym i ∙ e), λ w. absurd w);
     }
 
--- ---- import, before its test of room
+-- ---- rows that are judged, behind a test of room: one law for import and for `judge`
+
+pub record Judging (Right : List Entry → Type 0) (Wrong : Refusal → Type 0) (Bad : ℕ → Type 0) (a : Imported) : Type 0 where
+  pub takes : (es : List Entry) → (a ≡ taken es) ↔ Right es
+  pub refuses : (r : Refusal) → (a ≡ refusedBy r) ↔ Wrong r
+  pub rows : (k : ℕ) → (a ≡ refusedAt k) ↔ Bad k
+
+-- what is replied of each
+refused-is : (b : Imported) (r : Refusal) → (sizeOf b ≡ Refused r) ↔ (b ≡ refusedBy r)
+refused-is (taken es) r = (λ e. cc, λ e. cc)
+refused-is (refusedBy q) r = (λ e. cc, λ e. cc)
+refused-is (refusedAt k) r = (λ e. cc, λ e. cc)
+
+row-is : (b : Imported) (k : ℕ) → (sizeOf b ≡ Row k) ↔ (b ≡ refusedAt k)
+row-is (taken es) k = (λ e. cc, λ e. cc)
+row-is (refusedBy q) k = (λ e. cc, λ e. cc)
+row-is (refusedAt j) k = (λ e. cc, λ e. cc)
+
+module _ {Right : List Entry → Type 0} {Wrong : Refusal → Type 0} {Bad : ℕ → Type 0} {a : Imported} (j : Judging Right Wrong Bad a) (room : ℕ) where
+  abbrev By : Bool → Imported
+  By b = cond b a (refusedBy (early Room))
+
+  by-room : (b : Bool) → leb 104 room ≡ b → (r : Refusal) → By b ≡ refusedBy r → RoomGiven 104 room Wrong r
+  by-room true e r h = otherwise (leb-true 104 room e) (j .refuses r .0 h)
+  by-room false e r h = let i : early Room ≡ r = cc in rw (← i) (one (leb-false 104 room e))
+
+  in-room : {r : Refusal} → RoomGiven 104 room Wrong r → By (leb 104 room) ≡ refusedBy r
+  in-room (one l) = rw (lt-leb 104 room l)
+  in-room (otherwise {r = r} l o) = rw (le-leb 104 room l) (j .refuses r .1 o)
+
+  row-by : (b : Bool) → leb 104 room ≡ b → (k : ℕ) → By b ≡ refusedAt k → (104 ≤ room) × Bad k
+  row-by true e k h = (leb-true 104 room e, j .rows k .0 h)
+  row-by false e k h = let z : _≡_ {A = ℕ} 0 1 = cc in absurd (omega arith)
+
+  taken-by : (b : Bool) → leb 104 room ≡ b → (es : List Entry) → By b ≡ taken es → RoomAccepted 104 room Right es
+  taken-by true e es h = record { enough = leb-true 104 room e; accepted = j .takes es .0 h }
+  taken-by false e es h = let z : _≡_ {A = ℕ} 0 1 = cc in absurd (omega arith)
+
+  done-by : (b : Imported) → By (leb 104 room) ≡ b → (n : ℕ) → sizeOf b ≡ Done n → (es : List Entry) × RoomAccepted 104 room Right es × (n ≡ bitCount es)
+  done-by (taken es) e n h = (es, taken-by (leb 104 room) refl es e, cc)
+  done-by (refusedBy r) e n h = let z : _≡_ {A = ℕ} 0 1 = cc in absurd (omega arith)
+  done-by (refusedAt k) e n h = let z : _≡_ {A = ℕ} 0 1 = cc in absurd (omega arith)
+
+  pub judging-replies : (reply : Reply) → reply ≡ sizeOf (By (leb 104 room))
+      → Replies (λ n. (es : List Entry) × RoomAccepted 104 room Right es × (n ≡ bitCount es)) (RoomGiven 104 room Wrong) (λ k. (104 ≤ room) × Bad k) reply
+  judging-replies reply i =
+      let b = By (leb 104 room) in
+      record {
+        done = λ n. (λ e. done-by b refl n (sym i ∙ e), λ w. i ∙ rw (le-leb 104 room (w .1 .enough), j .takes (w .0) .1 (w .1 .accepted), w .2));
+        refuses = λ r. (λ e. by-room (leb 104 room) refl r (refused-is b r .0 (sym i ∙ e)), λ w. i ∙ refused-is b r .1 (in-room w));
+        rows = λ k. (
+          λ e. row-by (leb 104 room) refl k (row-is b k .0 (sym i ∙ e)),
+          λ w. i ∙ row-is b k .1 (rw (le-leb 104 room (w .0)) (j .rows k .1 (w .1))),
+        );
+      }
+
+-- ---- import
 
 named-not : {A : Type 0} (o : Option ℕ) (es : List Entry) (r : Refusal) → named o es ≡ refusedBy r → A
 named-not none es r e = let z : _≡_ {A = ℕ} 0 1 = cc in absurd (omega arith)
@@ -102,56 +158,8 @@ module _ (text : List ℕ) where
     λ a. rw (a .is) (sheet-back paper (kept-is es .1 (a .kept))),
   )
 
--- ---- import
-
-module _ (text : List ℕ) (room : ℕ) where
-  abbrev By : Bool → Imported
-  By b = cond b (imported paper text) (refusedBy (early Room))
-
-  by-room : (b : Bool) → leb 104 room ≡ b → (r : Refusal) → By b ≡ refusedBy r → ImportGiven text room r
-  by-room true e r h = otherwise (leb-true 104 room e) (imported-given text r .0 h)
-  by-room false e r h = let i : early Room ≡ r = cc in rw (← i) (one (leb-false 104 room e))
-
-  in-room : {r : Refusal} → ImportGiven text room r → By (leb 104 room) ≡ refusedBy r
-  in-room (one l) = rw (lt-leb 104 room l)
-  in-room (otherwise {r = r} l o) = rw (le-leb 104 room l) (imported-given text r .1 o)
-
-  with-room : (b : Bool) → leb 104 room ≡ b → (es : List Entry) → By b ≡ taken es → RoomAccepted 104 room (SheetAccepted text) es
-  with-room true e es h = record { enough = leb-true 104 room e; accepted = imported-accepted text es .0 h }
-  with-room false e es h = let z : _≡_ {A = ℕ} 0 1 = cc in absurd (omega arith)
-
-  pub import-given : (r : Refusal) → (importInto paper text room ≡ refusedBy r) ↔ ImportGiven text room r
-  unfolding importInto
-  import-given r = (by-room (leb 104 room) refl r, in-room)
-
-  pub import-accepted : (es : List Entry) → (importInto paper text room ≡ taken es) ↔ RoomAccepted 104 room (SheetAccepted text) es
-  unfolding importInto
-  import-accepted es = (with-room (leb 104 room) refl es, λ a. rw (le-leb 104 room (a .enough)) (imported-accepted text es .1 (a .accepted)))
-
-  -- what is replied of each
-  done-is : (b : Imported) → importInto paper text room ≡ b → (size : ℕ) → sizeOf b ≡ Done size → ImportedSize text room size
-  done-is (taken es) e size h = (es, import-accepted es .0 e, cc)
-  done-is (refusedBy r) e size h = let z : _≡_ {A = ℕ} 0 1 = cc in absurd (omega arith)
-  done-is (refusedAt k) e size h = let z : _≡_ {A = ℕ} 0 1 = cc in absurd (omega arith)
-
-pub refused-is : (b : Imported) (r : Refusal) → (sizeOf b ≡ Refused r) ↔ (b ≡ refusedBy r)
-refused-is (taken es) r = (λ e. cc, λ e. cc)
-refused-is (refusedBy q) r = (λ e. cc, λ e. cc)
-refused-is (refusedAt k) r = (λ e. cc, λ e. cc)
-
-pub row-is : (b : Imported) (k : ℕ) → (sizeOf b ≡ Row k) ↔ (b ≡ refusedAt k)
-row-is (taken es) k = (λ e. cc, λ e. cc)
-row-is (refusedBy q) k = (λ e. cc, λ e. cc)
-row-is (refusedAt j) k = (λ e. cc, λ e. cc)
-
 pub import-replies : {text before after : List ℕ} {reply : Reply} → Import paper text before reply after
     → Replies (ImportedSize text (length before)) (ImportGiven text (length before)) (ImportRow text (length before)) reply
+unfolding importInto
 import-replies {text} {before} {after} {reply} h =
-    let i = import-answer h in
-    let room = length before in
-    let b = importInto paper text room in
-    record {
-      done = λ m. (λ e. done-is text room b refl m (sym i ∙ e), λ w. i ∙ rw (import-accepted text room (w .0) .1 (w .1), w .2));
-      refuses = λ r. (λ e. import-given text room r .0 (refused-is b r .0 (sym i ∙ e)), λ w. i ∙ refused-is b r .1 (import-given text room r .1 w));
-      rows = λ k. (λ e. import-row text k room .0 (row-is b k .0 (sym i ∙ e)), λ w. i ∙ row-is b k .1 (import-row text k room .1 w));
-    }
+    judging-replies (record { takes = imported-accepted text; refuses = imported-given text; rows = imported-row text }) (length before) reply (import-answer h)

@@ -1,26 +1,21 @@
 -- Refusal 20 of import is given just as the request says. Assumes nothing.
 use mathlib.Core.Path.{_≡_, refl, ap, _∙_}
-use mathlib.Core.Bool.{Bool, true, false, cond}
 use mathlib.Core.List.{List}
 use mathlib.Core.Logic.{_↔_}
 use mathlib.Core.Option.{Option, some, none}
-use Prim.Native.Nat.{ℕ, _≤_}
+use Prim.Native.Nat.{ℕ}
 use native.Mathlib.Omega.{arith}
-use borrow.Author.Tests.{leb-true, le-leb}
-use lib.Dec.{leb}
 use Rattle.format.specs.Rules.{paper}
 use Rattle.format.specs.Telegrams.{Entry, Result, values, write}
 use Rattle.format.specs.Telegrams.Result.{accepted, refused}
-use Rattle.format.specs.declared.Kind.the-variants.{Room}
 use Rattle.laws.proofs.Demand2.{write-is}
 use Rattle.laws.proofs.Listed.{AllKnown, telegram-listed}
 use Rattle.states.specs.Labels.{numbers}
-use Rattle.states.specs.Reader.{bytesNeeded, early}
 use Rattle.sheet.specs.Reading.{sheetIn}
 use Rattle.sheet.specs.Reading.Rows.{rows, bad}
 use Rattle.sheet.specs.Reading as reading
-use Rattle.sheet.specs.Sheets.{otherName, named, judged, onSheet, imported, importInto}
-use Rattle.sheet.specs.Sheets.Imported.{refusedBy, refusedAt}
+use Rattle.sheet.specs.Sheets.{otherName, named, judged, onSheet, imported}
+use Rattle.sheet.specs.Sheets.Imported.{refusedAt}
 use Rattle.given.specs.Broken.Medium.{inValues}
 use Rattle.given.specs.Given.{Accepted}
 use Rattle.given.proofs.Accepted.{write-judged}
@@ -69,15 +64,6 @@ module _ (text : List ℕ) (k : ℕ) where
   pub imported-row : (imported paper text ≡ refusedAt k) ↔ RowGiven text k
   unfolding imported
   imported-row = (by-rows (sheetIn text) refl, given)
-
-  -- "1 for .. a telegram output under 104" comes before
-  pub import-row : (room : ℕ) → (importInto paper text room ≡ refusedAt k) ↔ ((104 ≤ room) × RowGiven text k)
-  unfolding importInto
-  import-row room = (by (leb bytesNeeded room) refl, λ g. rw (le-leb 104 room (g .0)) (imported-row .1 (g .1)))
-    where
-      by : (b : Bool) → leb 104 room ≡ b → cond b (imported paper text) (refusedBy (early Room)) ≡ refusedAt k → (104 ≤ room) × RowGiven text k
-      by true q e = (leb-true 104 room q, imported-row .0 e)
-      by false q e = let z : _≡_ {A = ℕ} 0 1 = cc in absurd (omega arith)
 
 -- so that no text has two such rows
 pub one-row : (text : List ℕ) (j k : ℕ) → RowGiven text j → RowGiven text k → j ≡ k
