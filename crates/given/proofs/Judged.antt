@@ -29,7 +29,7 @@ use Rattle.given.proofs.Tables.{etcs-none, ctcs-none}
 use Rattle.given.proofs.Sorts.{HeaderField, Sort, range-rule, range-number, range-direction}
 use Rattle.given.proofs.Sorts.HeaderField.{q-updown, m-version, q-media, n-pig, n-total, m-dup, m-mcount, nid-c, nid-bg, q-link}
 use Rattle.given.proofs.Sorts.Sort.{ranged, radioed, free, directs, sizes, users}
-use Rattle.given.proofs.Along.{Pig}
+use Rattle.given.proofs.Dues.{Pig}
 
 -- ---- tests
 

@@ -5,6 +5,7 @@ pub mod Tables
 pub mod Insides
 pub mod FortyFour
 pub mod Along
+pub mod Dues
 pub mod Judged
 pub mod Ruled
 pub mod Lengths

@@ -40,8 +40,9 @@ use Rattle.given.specs.Broken.Repeats.{repeats}
 use Rattle.given.specs.Broken.Breaks.{four, six, seven, nine, ten}
 use Rattle.given.proofs.FortyFour.{forty-four}
 use Rattle.given.proofs.Sorts.{HeaderField, Sort, header-number, sort-number}
-use Rattle.given.proofs.Along.{Told, Pig, Sorted, sends-told, sends-sorted}
-use Rattle.given.proofs.Along.Sorted.{of-header, of-packets}
+use Rattle.given.proofs.Along.{Told, sends-told}
+use Rattle.given.proofs.Dues.{Pig, Sorted, sends-sorted}
+use Rattle.given.proofs.Dues.Sorted.{of-header, of-packets}
 use Rattle.given.proofs.Judged.{none-some, clash-is, is-clash, header-sound, header-complete, packet-sound, user-sound, unlisted-complete, body-sound, direction-sound, disallowed-complete}
 
 -- ---- what is forbidden breaks a rule
