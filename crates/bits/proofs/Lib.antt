@@ -6,3 +6,4 @@ pub mod Same
 pub mod Once
 pub mod Loops
 pub mod Windows
+pub mod Sight

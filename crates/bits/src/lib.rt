@@ -1,13 +1,15 @@
 // Fields of bits inside bytes, the highest bit of byte 0 first.
 //
 // `Cursor::take` reads a field, by way of a window of four bytes where one holds the field, and else a byte at a time; `Cursor::skip` goes
-// past bits unread. No public function asks anything of its caller: every position, width, count and slice length has its answer, and
+// past bits unread; `Cursor::ahead` takes what lies ahead in one number, in which `behind` finds fields. No public function asks anything of its caller: every position, width, count and slice length has its answer, and
 // the definitions in specs/ say which. They define the writing of a field too.
 ghost use mathlib.Core.Path.{_≡_};
 ghost use Prim.Native.Nat.{_^_, _+_, _*_, _≤_, _<_};
 ghost use lib.ListN.{length};
 ghost use Rattle.bits.specs.Bits.{valueOf};
+ghost use Rattle.bits.specs.Ahead.{inSight, aheadAt};
 ghost use Rattle.bits.specs.Take.{inside, fieldBits, takeAt, skipAt};
+pub use word64::behind;
 pub use word64::bytes_for;
 pub use word64::fits;
 use word64::low_bits;
@@ -65,6 +67,47 @@ impl Cursor {
         }
         Skipped::To(Cursor { at: at + bits })
     }
+
+    // What lies ahead: a number of 64 bits in which the bits from here on stand in front, 57 of them or all that s has, with the cursor moved on past
+    // so many of them. Short where not one is to be gone past or more than 57 are, where the cursor would be past bit n, and where s does not hold n
+    // bits or has fewer than eight bytes.
+    pub fn ahead(self, s: &[u8], n: usize, bits: usize) -> Taken
+        ensures { λ r. ⌜ r ≡ aheadAt (now (s .entry)) n bits (self .at) ⌝ }
+    {
+        let at = self.at;
+        if !in_sight(s, n, at, bits) {
+            return Taken::Short;
+        }
+        let k = lower(at / 8, s.len() - 8);
+        let w = eight(s, k) << (at - 8 * k);
+        Taken::Field(w, Cursor { at: at + bits })
+    }
+}
+
+// Whether so many bits at the bit at of the first n bits of s lie in one window of eight bytes.
+fn in_sight(s: &[u8], n: usize, at: usize, bits: usize) -> bool
+    ensures { λ r. ⌜ r ≡ inSight (now (s .entry)) n bits at ⌝ }
+{
+    if bits == 0 {
+        return false;
+    }
+    if 57 < bits {
+        return false;
+    }
+    if s.len() < 8 {
+        return false;
+    }
+    inside(s, n, at, bits)
+}
+
+// The eight bytes of s from k on as one number, the first its highest.
+fn eight(s: &[u8], k: usize) -> u64
+    requires { ⌜ k + 8 ≤ length (now s) ⌝ }
+    ensures { λ r. ⌜ r ≡ valueOf (fieldBits (now (s .entry)) 64 (8 * k)) ⌝ }
+{
+    let high = window(s[k], s[k + 1], s[k + 2], s[k + 3]);
+    let low = window(s[k + 4], s[k + 5], s[k + 6], s[k + 7]);
+    high << 32 | low
 }
 
 // Whether a whole field of width bits lies at the bit at of the first n bits of s.

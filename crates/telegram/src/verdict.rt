@@ -45,29 +45,6 @@ fn ranged(rows: &[u16; 213], k: usize, l: Level, v: u64) -> Verdict
     Verdict::Fine
 }
 
-// Sixteen places: digits, then only F.
-fn radio(v: u64) -> bool
-    ensures { λ r. ⌜ r ≡ radioFrom 16 false v ⌝ }
-{
-    let mut k: usize = 16;
-    let mut full = false;
-    while 0 < k {
-        k -= 1;
-        let d = (v >> (4 * k)) % 16;
-        if d == 15 {
-            full = true;
-        } else {
-            if 9 < d {
-                return false;
-            }
-            if full {
-                return false;
-            }
-        }
-    }
-    true
-}
-
 // An NID_PACKET of the tables, or the end mark.
 fn packet(v: u64) -> Verdict
     ensures { λ r. ⌜ verdictOf r ≡ unless (eqb v 255 || known (find v etcs)) Unknown ⌝ }
@@ -138,7 +115,7 @@ pub(crate) fn judge(rows: &[u16; 213], s: State, v: u64, twice: bool) -> Verdict
         return Verdict::Fine;
     }
     if c == RADIO {
-        if radio(v) {
+        if radio_number::allowed(v) {
             return Verdict::Fine;
         }
         return Verdict::Broken(Kind::Value);

@@ -9,6 +9,7 @@ use Rattle.word64.proofs.wide
 use Rattle.word64.proofs.window
 use Rattle.word64.proofs.low_bits
 use Rattle.word64.proofs.lower
+use Rattle.word64.proofs.behind
 
 -- what a function promises: of its arguments, its answer, and its parameters as they stand at exit
 abbrev pub Promise : Ended → Type 1
@@ -49,3 +50,6 @@ low-bits-once κs args r t u v p q = (p ∙ sym q, refl)
 
 pub lower-once : OneOutcome lower.ended lower.Reads.Post
 lower-once κs args r t u v p q = (p ∙ sym q, refl)
+
+pub behind-once : OneOutcome behind.ended behind.Reads.Post
+behind-once κs args r t u v p q = (p ∙ sym q, refl)

@@ -1,8 +1,8 @@
 -- The operators on words of 64 bits, and what a caller reads off the promises about them. Assumes nothing.
 use mathlib.Core.Path.{_≡_, refl, sym, ap, _∙_}
 use mathlib.Core.Bool.{Bool, true, false, _||_}
-use Prim.Native.Nat.{ℕ, _+_, _*_, _/_, _%_, _^_, _≤_, _<_}
-use native.Mathlib.Nat.{one-mul, div-eq-of-lt, div-lt-iff-lt-mul, lt-of-not-le, add-mul, mul-assoc}
+use Prim.Native.Nat.{ℕ, _+_, _-_, _*_, _/_, _%_, _^_, _≤_, _<_}
+use native.Mathlib.Nat.{one-mul, div-eq-of-lt, div-lt-iff-lt-mul, lt-of-not-le, add-mul, mul-assoc, mul-mod-left}
 use native.Mathlib.Decide.{decLe}
 use native.Mathlib.Omega.{arith}
 use borrow.Author.Tests.{eq-eqb, ne-eqb, lt-ltb, le-ltb, ltb-false}
@@ -47,6 +47,13 @@ or-bytes a b c d ha hb hc hd =
     -- a number shifted further by t bits leaves room for t bits more
     or-next : (v x t k : ℕ) → x < 2 ^ t → bitOr (v * 2 ^ (t + k)) (x * 2 ^ k) ≡ (v * 2 ^ t + x) * 2 ^ k
     or-next v x t k h = or-shifted v (t + k) (x * 2 ^ k) (shl-lt t k h) ∙ rw (pow-add 2 t k, add-mul, mul-assoc)
+
+-- `w << o`, where o is 64 or more
+pub all-gone : (w o b : ℕ) → 64 ≤ o → w * 2 ^ o % 2 ^ 64 / 2 ^ (64 - b) ≡ 0
+all-gone w o b h =
+    let e : o ≡ o - 64 + 64 = omega arith in
+    ap (λ (x : ℕ). w * 2 ^ x % 2 ^ 64 / 2 ^ (64 - b)) e
+    ∙ rw (pow-add 2 (o - 64) 64, ← (mul-assoc w (2 ^ (o - 64)) (2 ^ 64)), mul-mod-left (w * 2 ^ (o - 64)) (2 ^ 64)) (div-eq-of-lt (pow-pos (64 - b)))
 
 -- ---- what a caller reads
 

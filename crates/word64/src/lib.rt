@@ -1,7 +1,7 @@
 // Words of 64 bits: how many bits and bytes a number takes, and its parts. Every function answers every input.
 ghost use mathlib.Core.Path.{_≡_};
 ghost use mathlib.Core.Bool.{_||_};
-ghost use Prim.Native.Nat.{_+_, _*_, _/_, _%_, _^_, min};
+ghost use Prim.Native.Nat.{_+_, _-_, _*_, _/_, _%_, _^_, min};
 ghost use lib.Dec.{ltb};
 
 // Whether a value fits into a field of width bits.
@@ -54,4 +54,17 @@ pub fn lower(a: usize, b: usize) -> usize
     ensures { λ r. ⌜ r ≡ min a b ⌝ }
 {
     if a < b { a } else { b }
+}
+
+// The b bits of w that stand behind its o highest.
+pub fn behind(w: u64, o: usize, b: usize) -> u64
+    ensures { λ r. ⌜ r ≡ w * 2 ^ o % 2 ^ 64 / 2 ^ (64 - b) ⌝ }
+{
+    if 63 < o {
+        return 0;
+    }
+    if b == 0 {
+        return 0;
+    }
+    (w << o) >> (64 - lower(b, 64))
 }

@@ -5,8 +5,8 @@ use Prim.Native.Nat.{_≤_, _-_}
 use native.Mathlib.Omega.{arith}
 use Rattle.format.specs.Rules.{radioFrom}
 use Rattle.states.proofs.Places.{full-at, digit-at, bad-digit, late-digit, all-read}
-use Rattle.telegram.proofs.verdict.radio.Statement.{statement}
-use Rattle.telegram.proofs.verdict.radio.Tie as tie
+use Rattle.radio_number.proofs.allowed.Statement.{statement}
+use Rattle.radio_number.proofs.allowed.Tie as tie
 
 abbrev Inv-loop : tie.InvT-loop
 Inv-loop v k₀ full₀ k full = (k ≤ 16) × (radioFrom 16 false v ≡ radioFrom k full v)
@@ -66,8 +66,8 @@ returns-3 c =
     let i = b .loop in
     sym (i .inv .1 ∙ all-read (b .before .args .v) (i .full) (i .k) (c .loop-test .left))
 
-pub radio-spec : {M : Type 1} → statement M
-radio-spec =
+pub allowed-spec : {M : Type 1} → statement M
+allowed-spec =
     tie.close
     (tie.spec
     Inv-loop

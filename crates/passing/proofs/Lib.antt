@@ -1,0 +1,10 @@
+-- The laws of packets that are passed whole, in reading order.
+pub mod Passing
+pub mod Stood
+pub mod Filled
+pub mod Window
+pub mod Sorts
+pub mod Looking
+pub mod Sweeping
+pub mod Lists
+pub mod More
