@@ -1,6 +1,7 @@
 -- How large a group is, whatever the window holds. Assumes nothing.
 use mathlib.Core.Bool.{Bool, true, false, cond, _&&_}
-use Prim.Native.Nat.{ℕ, _+_, _*_, _/_, _≤_}
+use Prim.Native.Nat.{ℕ, _+_, _*_, _/_, _%_, _^_, _≤_, _<_}
+use native.Mathlib.Nat.{mod-lt}
 use native.Mathlib.Omega.{arith}
 use lib.Dec.{eqb, leb}
 use Rattle.bits.specs.Ahead.{behind}
@@ -54,3 +55,10 @@ position-small w = (omega arith, omega arith)
 pub circuit-small : (w : ℕ) → Small (circuitIn w)
 unfolding circuitIn
 circuit-small w = none-or (leb (behind w 0 4) 7 && leb (behind w 4 5) 12) (hop 24 3) (omega arith, omega arith)
+
+-- an N_ITER, wherever it stands
+pub iter-small : (w o : ℕ) → behind w o 5 ≤ 31
+iter-small w o = below (w * 2 ^ o % 2 ^ 64) (mod-lt _ (omega arith))
+  where
+    below : (x : ℕ) → x < 2 ^ 64 → x / 2 ^ 59 ≤ 31
+    below x h = omega arith
