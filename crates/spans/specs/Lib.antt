@@ -1,0 +1,3 @@
+-- What each promise of this crate cites, in reading order.
+pub mod Bodies
+pub mod Spans
