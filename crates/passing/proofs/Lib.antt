@@ -2,9 +2,5 @@
 pub mod Passing
 pub mod Stood
 pub mod Filled
-pub mod Window
 pub mod Sorts
-pub mod Looking
 pub mod Sweeping
-pub mod Lists
-pub mod More

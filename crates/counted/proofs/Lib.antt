@@ -1,0 +1,12 @@
+-- Packets that are counted whole keep their rules, in reading order.
+pub mod Tests
+pub mod Groups
+pub mod Levels
+pub mod Speeds
+pub mod Listed
+pub mod EachList
+pub mod Bodies
+pub mod Radios
+pub mod Texts
+pub mod EachKind
+pub mod Spans
