@@ -1,8 +1,9 @@
 -- What the loop over whole packets goes by: the telegram stands at a packet's edge. Assumes nothing.
-use mathlib.Core.Bool.{false}
+use mathlib.Core.Bool.{Bool, true, false}
+use mathlib.Core.Logic.{_⊎_, ⊎-elim}
 use mathlib.Core.List.{List}
 use mathlib.Core.Path.{_≡_, refl, sym, _∙_}
-use Prim.Native.Nat.{ℕ, _+_, _*_, _≤_}
+use Prim.Native.Nat.{ℕ, _+_, _*_, _≤_, _<_}
 use native.Mathlib.Omega.{arith}
 use lib.ListN.{length}
 use Rattle.bits.specs.Ahead.{behind}
@@ -88,3 +89,20 @@ module _ {s : List ℕ} {n at count : ℕ} (i : Edge s n at count) where
 
   pub edge-few : count ≤ at
   edge-few = i .stood .few
+
+-- ---- where the loop ends
+
+-- over: the telegram is accepted with so many values; else not even the header is passed, or it stands at a packet's edge
+abbrev pub Sweeps : List ℕ → ℕ → ℕ → ℕ → Bool → Type 0
+Sweeps s n at count true = Accepted count ≡ answerOf (read paper (telegramBits s n))
+Sweeps s n at count false = ((at ≡ 0) × (count ≡ 0)) ⊎ Edge s n at count
+
+module _ {s : List ℕ} {n at count : ℕ} (w : Sweeps s n at count false) where
+  -- from an edge on
+  pub sweeps-on : 0 < at → {rows : List ℕ} {pig : ℕ} → rows ≡ words → pig ≡ valueOf (fieldBits s 3 9)
+      → Scans s n rows (freshAt at pig) (record { at = at }) count
+  sweeps-on h t e = ⊎-elim (λ z. absurd (omega (arith, z .0))) (λ i. edge-scans i t e) w
+
+  -- from the first field on
+  pub sweeps-none : (0 < at → ⊥) → count ≡ 0
+  sweeps-none h = ⊎-elim (λ z. z .1) (λ i. absurd (h (omega (arith, i .behind)))) w

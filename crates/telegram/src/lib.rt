@@ -9,6 +9,7 @@ mod normaliser;
 mod reader;
 mod rows;
 mod state;
+mod swift;
 mod todo;
 mod verdict;
 mod writer;

@@ -1,33 +1,35 @@
 // Checking and reading a telegram: the machine driven by bits.
 //
 // A refusal changes no output, so reading checks first, and stores in a second run, which follows the rows alone.
+ghost use mathlib.Core.Bool.{false};
 ghost use mathlib.Core.Path.{_≡_};
 ghost use Prim.Native.Nat.{_*_, _≤_};
 ghost use lib.ListN.{length, take};
-ghost use Rattle.bits.specs.Bits.{bitsOf, bytesFor};
+ghost use Rattle.bits.specs.Bits.{valueOf, bitsOf, bytesFor};
+ghost use Rattle.bits.specs.Take.{fieldBits};
 ghost use Rattle.format.specs.Refusals.{inNumbers};
 ghost use Rattle.format.specs.Rules.{paper};
 ghost use Rattle.format.specs.Telegrams as telegrams;
 ghost use Rattle.states.specs.Reader.{clear, checked, answerOf, Read};
 ghost use Rattle.states.specs.Filling.{Filling, Filled};
 ghost use Rattle.states.proofs.Scanning.{Scans};
+ghost use Rattle.passing.proofs.Sweeping.{Sweeps};
 use crate::answer::refuse;
 use crate::answer::refused;
 use crate::driver::drift;
 use crate::driver::ease;
-use crate::earlier::FRONT;
 use crate::earlier::repeated_in_bits;
 use crate::head::leading;
 use crate::machine::fresh;
 use crate::machine::step;
 use crate::rows::width;
 use crate::state::begin;
+use crate::swift::sweep;
 use crate::todo::advance;
 use bits::Cursor;
 use bits::Taken;
 use format::Answer;
 use format::Kind;
-use front::header;
 use noting::closes;
 use short::sized;
 use states::Ahead;
@@ -47,7 +49,11 @@ pub fn check(s: &[u8], n: usize) -> Answer
     if !clear(s, n) {
         return refuse(Kind::Padding, 0);
     }
-    scan(s, n)
+    let w = sweep(s, n);
+    if w.over {
+        return Answer::Accepted(w.count);
+    }
+    exact(s, n, w.at, w.count)
 }
 
 // Reads a telegram into out, one value a field in order of sending, and answers their count. A refusal leaves out as it was.
@@ -78,19 +84,29 @@ fn clear(s: &[u8], n: usize) -> bool
     }
 }
 
-// Goes over the fields of the first n bits of s: the header at once, where it keeps every rule, and else from its first field on.
-fn scan(s: &[u8], n: usize) -> Answer
-    requires { ⌜ (n ≤ 830) × (n ≤ 8 * length (now s)) ⌝ }
+// Goes over the fields of the first n bits of s from the bit at on, where so many fields were before: from a packet's edge, or from the header's first field.
+fn exact(s: &[u8], n: usize, at: usize, before: usize) -> Answer
+    requires { ⌜ (12 ≤ n) × (n ≤ 830) × (n ≤ 8 * length (now s)) × Sweeps (now s) n at before false ⌝ }
     ensures { λ r. ⌜ r ≡ answerOf (telegrams.read paper (take n (bitsOf (now (s .entry))))) ⌝ }
 {
     let rows = table::rows();
     let mut st = begin();
-    let mut count: usize = 0;
-    if let Begun::To(after) = header(s, n) {
-        st = after;
-        count = FRONT;
+    if 0 < at {
+        st = fresh(at, pig(s, n));
     }
-    walk(&rows, s, n, st, count)
+    walk(&rows, s, n, st, before)
+}
+
+// The N_PIG of the header.
+fn pig(s: &[u8], n: usize) -> u64
+    requires { ⌜ (12 ≤ n) × (n ≤ 8 * length (now s)) ⌝ }
+    ensures { λ r. ⌜ r ≡ valueOf (fieldBits (now (s .entry)) 3 9) ⌝ }
+{
+    let c = Cursor { at: 9 };
+    match c.take(s, n, 3) {
+        Taken::Field(v, _) => v,
+        Taken::Short => 0,
+    }
 }
 
 // Goes on from there, where so many fields were before, up to the first broken rule or the end mark, each field through the cursor: those that no
