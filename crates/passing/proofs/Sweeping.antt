@@ -1,6 +1,6 @@
 -- What the loop over whole packets goes by: the telegram stands at a packet's edge. Assumes nothing.
 use mathlib.Core.Bool.{Bool, true, false}
-use mathlib.Core.Logic.{_⊎_, ⊎-elim}
+use mathlib.Core.Logic.{_⊎_, inl, inr, ⊎-elim}
 use mathlib.Core.List.{List}
 use mathlib.Core.Path.{_≡_, refl, sym, _∙_}
 use Prim.Native.Nat.{ℕ, _+_, _*_, _≤_, _<_}
@@ -58,6 +58,10 @@ module _ (s : List ℕ) (n : ℕ) {after : machine.State} (e : frontOf s n ≡ T
       let i = rw (fronted .state) at (scans-fronted s n words low (f .room) refl fronted) in
       record { pig = _; earlier = _; stood = fresh-stood i; known = pig-in; behind = omega arith }
 
+  -- at the bit where the state is that it leads to
+  pub edge-front : n ≤ 830 → Edge s n (after .at) 10
+  edge-front low = rw (fronted .state) (edge-first low)
+
 -- ---- from edge to edge
 
 module _ {s : List ℕ} {n at count : ℕ} (i : Edge s n at count) where
@@ -97,6 +101,13 @@ abbrev pub Sweeps : List ℕ → ℕ → ℕ → ℕ → Bool → Type 0
 Sweeps s n at count true = Accepted count ≡ answerOf (read paper (telegramBits s n))
 Sweeps s n at count false = ((at ≡ 0) × (count ≡ 0)) ⊎ Edge s n at count
 
+-- it stops where it stands, or before the header
+pub sweeps-stop : {s : List ℕ} {n at count a k : ℕ} {o : Bool} → Edge s n at count → (a ≡ at) × (k ≡ count) × (o ≡ false) → Sweeps s n a k o
+sweeps-stop i e = rw (e .0, e .1, e .2) (inr i)
+
+pub sweeps-start : (s : List ℕ) (n : ℕ) {a k : ℕ} {o : Bool} → (a ≡ 0) × (k ≡ 0) × (o ≡ false) → Sweeps s n a k o
+sweeps-start s n e = rw (e .2) (inl (e .0, e .1))
+
 module _ {s : List ℕ} {n at count : ℕ} (w : Sweeps s n at count false) where
   -- from an edge on
   pub sweeps-on : 0 < at → {rows : List ℕ} {pig : ℕ} → rows ≡ words → pig ≡ valueOf (fieldBits s 3 9)
@@ -104,5 +115,5 @@ module _ {s : List ℕ} {n at count : ℕ} (w : Sweeps s n at count false) where
   sweeps-on h t e = ⊎-elim (λ z. absurd (omega (arith, z .0))) (λ i. edge-scans i t e) w
 
   -- from the first field on
-  pub sweeps-none : (0 < at → ⊥) → count ≡ 0
-  sweeps-none h = ⊎-elim (λ z. z .1) (λ i. absurd (h (omega (arith, i .behind)))) w
+  pub sweeps-none : at ≤ 0 → count ≡ 0
+  sweeps-none h = ⊎-elim (λ z. z .1) (λ i. absurd (omega (arith, i .behind))) w

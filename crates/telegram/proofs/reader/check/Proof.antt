@@ -1,4 +1,4 @@
--- `telegram::reader::check` meets its contract: the tests of the definition, in its order. Assumes nothing.
+-- `telegram::reader::check` meets its contract: the tests of the definition, in its order, and the fields by whole packets or one by one. Assumes nothing.
 use mathlib.Core.Path.{sym, ap, _∙_}
 use native.Mathlib.Omega.{arith}
 use borrow.Author.Tests.{not-true, not-false}
@@ -37,21 +37,38 @@ returns-2 c =
     ap inNumbers
     (c .refuse2 .ensures
     ∙ sym (ap answerOf
-    (checked-padding (now (a .s)) (a .n) paper (sym (c .before .before .before .before .sized .ensures) ∙ not-false _ (c .before .before .before .if1 .left)) (sym (c .before .before .clear .ensures) ∙ not-true _ (c .before .if2 .taken)))))
+    (checked-padding (now (a .s)) (a .n) paper (sym (c .before .before .before .before .sized .ensures) ∙ not-false _ (c .before .before .before .if1 .left))
+    (sym (c .before .before .clear .ensures) ∙ not-true _ (c .before .if2 .taken)))))
 
-scan-requires : tie.Need-scan-requires
-scan-requires c κs =
+sweep-requires : tie.Need-sweep-requires
+sweep-requires c κs =
     let a = c .before .before .before .before .before .args in
     let z = sized-is (now (a .s)) (a .n) (sym (c .before .before .before .sized .ensures) ∙ not-false _ (c .before .before .if1 .left)) in
     (z .most, omega (arith, z .bytes))
 
 returns-3 : tie.Need-returns-3
 returns-3 c =
-    let a = c .before .before .before .before .before .before .args in
+    let a = c .before .before .before .before .before .before .before .args in
     ap inNumbers
-    (c .scan .ensures
+    ((rw (c .if3 .taken) at (c .before .sweep .ensures))
     ∙ sym (ap answerOf
-    (checked-fields (now (a .s)) (a .n) paper (sym (c .before .before .before .before .sized .ensures) ∙ not-false _ (c .before .before .before .if1 .left)) (sym (c .before .before .clear .ensures) ∙ not-false _ (c .before .if2 .left)))))
+    (checked-fields (now (a .s)) (a .n) paper (sym (c .before .before .before .before .before .sized .ensures) ∙ not-false _ (c .before .before .before .before .if1 .left))
+    (sym (c .before .before .before .clear .ensures) ∙ not-false _ (c .before .before .if2 .left)))))
+
+exact-requires : tie.Need-exact-requires
+exact-requires c κs =
+    let a = c .before .before .before .before .before .before .before .args in
+    let z = sized-is (now (a .s)) (a .n) (sym (c .before .before .before .before .before .sized .ensures) ∙ not-false _ (c .before .before .before .before .if1 .left)) in
+    (omega (arith, z .least), z .most, omega (arith, z .bytes), rw (c .if3 .left) at (c .before .sweep .ensures))
+
+returns-4 : tie.Need-returns-4
+returns-4 c =
+    let a = c .before .before .before .before .before .before .before .before .args in
+    ap inNumbers
+    (c .exact .ensures
+    ∙ sym (ap answerOf
+    (checked-fields (now (a .s)) (a .n) paper (sym (c .before .before .before .before .before .before .sized .ensures) ∙ not-false _ (c .before .before .before .before .before .if1 .left))
+    (sym (c .before .before .before .before .clear .ensures) ∙ not-false _ (c .before .before .before .if2 .left)))))
 
 pub check-spec : {M : Type 1} → statement M
 check-spec =
@@ -63,5 +80,7 @@ check-spec =
     clear-requires
     refuse-requires-2
     returns-2
-    scan-requires
-    returns-3)
+    sweep-requires
+    returns-3
+    exact-requires
+    returns-4)

@@ -41,8 +41,8 @@ returns-3 c =
     let f = fieldAt (a .s .todo .node) in
     total-fits (a .s .pig) (a .v) (c .if3 .left) ∙ judge-total p x f (a .v) (sym (b .code .ensures) ∙ c .before .before .if2 .taken)
 
-radio-requires : tie.Need-radio-requires
-radio-requires c κs = search needs
+allowed-requires : tie.Need-allowed-requires
+allowed-requires c κs = search needs
 
 returns-4 : tie.Need-returns-4
 returns-4 c =
@@ -51,7 +51,7 @@ returns-4 c =
     let a = b .before .before .args in
     let x = contextOf l (a .s) in
     let f = fieldAt (a .s .todo .node) in
-    ap (λ (q : Bool). unless q Value) (sym (c .if5 .taken) ∙ c .before .radio .ensures)
+    ap (λ (q : Bool). unless q Value) (sym (c .if5 .taken) ∙ c .before .allowed .ensures)
     ∙ judge-radio p x f (a .v) (sym (b .code .ensures) ∙ c .before .before .if4 .taken)
 
 returns-5 : tie.Need-returns-5
@@ -61,7 +61,7 @@ returns-5 c =
     let a = b .before .before .args in
     let x = contextOf l (a .s) in
     let f = fieldAt (a .s .todo .node) in
-    ap (λ (q : Bool). unless q Value) (sym (c .if5 .left) ∙ c .before .radio .ensures)
+    ap (λ (q : Bool). unless q Value) (sym (c .if5 .left) ∙ c .before .allowed .ensures)
     ∙ judge-radio p x f (a .v) (sym (b .code .ensures) ∙ c .before .before .if4 .taken)
 
 packet-requires : tie.Need-packet-requires
@@ -121,7 +121,7 @@ judge-spec =
     returns
     returns-2
     returns-3
-    radio-requires
+    allowed-requires
     returns-4
     returns-5
     packet-requires

@@ -1,0 +1,142 @@
+-- `telegram::swift::sweep` meets its contract: from packet's edge to packet's edge. The measure is how many bits are left. Assumes nothing.
+use mathlib.Core.Path.{_≡_, sym, ap, _∙_}
+use Prim.Native.Nat.{ℕ, _+_, _-_, _≤_, _<_}
+use native.Mathlib.Omega.{arith}
+use borrow.Author.Needs.{needs}
+use denote.Ref.{now}
+use Rattle.bits.proofs.Sight.{sighted}
+use Rattle.counted.proofs.Spans.{packet-kept}
+use Rattle.passing.proofs.Sorts.{Kept, kept-long}
+use Rattle.passing.proofs.Sweeping.{Edge, edge-front, edge-on, edge-few, edge-within, sweeps-stop, sweeps-start}
+use Rattle.telegram.proofs.swift.sweep.Statement.{statement}
+use Rattle.telegram.proofs.swift.sweep.Tie as tie
+
+abbrev Inv-loop : tie.InvT-loop
+Inv-loop s n c₀ count₀ c count = Edge s n (c .at) count
+
+abbrev μ-loop : tie.MeasureT-loop
+μ-loop s n c₀ count₀ c count = n - c .at
+
+header-requires : tie.Need-header-requires Inv-loop μ-loop
+header-requires c κs = search needs
+
+enum-known-front : tie.Need-enum-known-front Inv-loop μ-loop
+enum-known-front c = search needs
+
+enum-told : tie.Need-enum-told Inv-loop μ-loop
+enum-told c = search needs
+
+stopped-requires : tie.Need-stopped-requires Inv-loop μ-loop
+stopped-requires c κs = search needs
+
+returns : tie.Need-returns Inv-loop μ-loop
+returns c = sweeps-start (now (c .before .before .before .before .before .args .s)) (c .before .before .before .before .before .args .n) (c .stopped .ensures)
+
+loop-holds : tie.Need-loop-holds Inv-loop μ-loop
+loop-holds c = edge-front (now (c .before .before .before .before .before .args .s)) (c .before .before .before .before .before .args .n) (sym (c .before .before .before .header .ensures) ∙ c .before .front .given .1) (c .before .before .before .before .before .pre .0)
+
+ahead-requires : tie.Need-ahead-requires Inv-loop μ-loop
+ahead-requires c κs = search needs
+
+enum-known-w : tie.Need-enum-known-w Inv-loop μ-loop
+enum-known-w c = search needs
+
+enum-told-2 : tie.Need-enum-told-2 Inv-loop μ-loop
+enum-told-2 c = search needs
+
+ended-requires : tie.Need-ended-requires Inv-loop μ-loop
+ended-requires c κs = c .before .before .before .loop .inv
+
+returns-2 : tie.Need-returns-2 Inv-loop μ-loop
+returns-2 c = c .ended .ensures
+
+behind-requires : tie.Need-behind-requires Inv-loop μ-loop
+behind-requires c κs = search needs
+
+packet-requires : tie.Need-packet-requires Inv-loop μ-loop
+packet-requires c κs = search needs
+
+stopped-requires-2 : tie.Need-stopped-requires-2 Inv-loop μ-loop
+stopped-requires-2 c κs = tt
+
+returns-3 : tie.Need-returns-3 Inv-loop μ-loop
+returns-3 c = sweeps-stop (c .before .before .before .before .before .before .before .before .before .loop .inv) (c .stopped2 .ensures)
+
+behind-requires-2 : tie.Need-behind-requires-2 Inv-loop μ-loop
+behind-requires-2 c κs = tt
+
+behind-requires-3 : tie.Need-behind-requires-3 Inv-loop μ-loop
+behind-requires-3 c κs = tt
+
+collides-in-bits-requires : tie.Need-collides-in-bits-requires Inv-loop μ-loop
+collides-in-bits-requires c κs = search needs
+
+stopped-requires-3 : tie.Need-stopped-requires-3 Inv-loop μ-loop
+stopped-requires-3 c κs = tt
+
+returns-4 : tie.Need-returns-4 Inv-loop μ-loop
+returns-4 c = sweeps-stop (c .before .before .before .before .before .before .before .before .before .before .before .before .before .loop .inv) (c .stopped3 .ensures)
+
+-- behind a packet that is counted and collides with none
+module _ (c : tie.Else2 Inv-loop μ-loop) where
+  abbrev long : ℕ
+  long = c .before .before .before .before .before .before .before .behind .result
+
+  kept : Kept (now (c .before .before .before .before .before .before .before .before .before .before .before .before .before .before .before .before .before .before .args .s)) (c .before .before .before .before .before .before .before .before .before .before .before .before .loop .c .at) long (c .before .before .before .before .before .before .packet .result .values) × (c .before .before .before .before .before .before .before .before .before .before .before .before .loop .c .at + long ≤ c .before .before .before .before .before .before .before .before .before .before .before .before .before .before .before .before .before .before .args .n)
+  kept =
+      let a = c .before .before .before .before .before .before .before .before .before .before .before .before .before .before .before .before .before .before .args in
+      let i = sighted (now (a .s)) (a .n) 23 (c .before .before .before .before .before .before .before .before .before .before .before .before .loop .c .at) _ _ (sym (c .before .before .before .before .before .before .before .before .before .before .before .ahead .ensures) ∙ c .before .before .before .before .before .before .before .before .before .w .given .1) in
+      let some : 0 < c .before .before .before .before .before .before .packet .result .values = omega arith in
+      rw (← (c .before .before .before .before .before .before .packet .ensures)) at (packet-kept (now (a .s)) (a .n) (i .ahead) (i .room) long (rw (c .before .before .before .before .before .before .packet .ensures) at some))
+
+  following : Edge (now (c .before .before .before .before .before .before .before .before .before .before .before .before .before .before .before .before .before .before .args .s)) (c .before .before .before .before .before .before .before .before .before .before .before .before .before .before .before .before .before .before .args .n) (c .before .before .before .before .before .before .before .before .before .before .before .before .loop .c .at + long) (c .before .before .before .before .before .before .before .before .before .before .before .before .loop .count + c .before .before .before .before .before .before .packet .result .values)
+  following =
+      let a = c .before .before .before .before .before .before .before .before .before .before .before .before .before .before .before .before .before .before .args in
+      let i = sighted (now (a .s)) (a .n) 23 (c .before .before .before .before .before .before .before .before .before .before .before .before .loop .c .at) _ _ (sym (c .before .before .before .before .before .before .before .before .before .before .before .ahead .ensures) ∙ c .before .before .before .before .before .before .before .before .before .w .given .1) in
+      edge-on (c .before .before .before .before .before .before .before .before .before .before .before .before .loop .inv) (i .ahead) (kept .0) (c .before .before .before .before .before .before .before .behind .ensures) (kept .1)
+      (sym (c .if2 .left) ∙ rw (c .before .before .before .behind2 .ensures, c .before .before .behind3 .ensures) at (c .before .collides-in-bits .ensures))
+
+add-t15 : tie.Need-add-t15 Inv-loop μ-loop
+add-t15 c = omega (arith, edge-within (following (c .before)), c .before .before .before .before .before .before .before .before .before .before .before .before .before .before .before .before .before .before .before .pre .0)
+
+add-count : tie.Need-add-count Inv-loop μ-loop
+add-count c = omega (arith, edge-few (following (c .before .before)), edge-within (following (c .before .before)), c .before .before .before .before .before .before .before .before .before .before .before .before .before .before .before .before .before .before .before .before .pre .0)
+
+loop-less : tie.Need-loop-less Inv-loop μ-loop
+loop-less c =
+    let k = kept (c .before .before) in
+    omega (arith, kept-long (k .0), k .1)
+
+loop-again : tie.Need-loop-again Inv-loop μ-loop
+loop-again c = following (c .before .before)
+
+pub sweep-spec : {M : Type 1} → statement M
+sweep-spec =
+    tie.close
+    (tie.spec
+    Inv-loop
+    μ-loop
+    header-requires
+    enum-known-front
+    enum-told
+    stopped-requires
+    returns
+    loop-holds
+    ahead-requires
+    enum-known-w
+    enum-told-2
+    ended-requires
+    returns-2
+    behind-requires
+    packet-requires
+    stopped-requires-2
+    returns-3
+    behind-requires-2
+    behind-requires-3
+    collides-in-bits-requires
+    stopped-requires-3
+    returns-4
+    add-t15
+    add-count
+    loop-less
+    loop-again)
