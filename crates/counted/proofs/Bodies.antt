@@ -25,7 +25,7 @@ use Rattle.lists.specs.Lists.{ifSkipped, ifTaken, levelsAt, conditionsAt, circu
 use Rattle.passing.proofs.Passing.{Passed, passed-so, passed-grows, passed-then, passed-one, passed-first, passed-second, ruled-run, free-run, free-times, Free}
 use Rattle.laws.proofs.Tile.{widths}
 use Rattle.laws.proofs.Whole.{fieldCount}
-use Rattle.spans.specs.Bodies.{sizedBy, trackAt, restrictedAt, stoppingAt}
+use Rattle.bodies.specs.Bodies.{sizedBy, trackAt, restrictedAt, stoppingAt}
 use Rattle.counted.proofs.EachList.{listed, levels-through, conditions-through, circuits-through}
 use Rattle.counted.proofs.Groups.{condition, circuit}
 use Rattle.counted.proofs.Levels.{transition}

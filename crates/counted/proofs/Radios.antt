@@ -22,7 +22,7 @@ use Rattle.format.specs.Rules.{radioFrom}
 use Rattle.lists.specs.Lists.{ifSkipped, ifTaken, ifSeen}
 use Rattle.passing.proofs.Passing.{passed-so, ruled-run}
 use Rattle.passing.proofs.Sorts.{front-is}
-use Rattle.spans.specs.Bodies.{radioAt}
+use Rattle.bodies.specs.Bodies.{radioAt}
 use Rattle.counted.proofs.Listed.{Through}
 use Rattle.counted.proofs.Tests.{cond-true}
 

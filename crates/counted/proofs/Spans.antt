@@ -25,7 +25,7 @@ use Rattle.passing.proofs.Filled.Filled.{own}
 use Rattle.passing.proofs.Passing.{passed-from, passed-grows}
 use Rattle.passing.proofs.Passing.Passed.{pass}
 use Rattle.passing.proofs.Sorts.{Kept, id-is, kept-by, kept-44}
-use Rattle.spans.specs.Bodies.{sizedBy, radioAt, trackAt, restrictedAt, stoppingAt, textAt}
+use Rattle.bodies.specs.Bodies.{sizedBy, radioAt, trackAt, restrictedAt, stoppingAt, textAt}
 use Rattle.spans.specs.Spans.{plain, span, scaledBy, userAt, nationalAt, kindAt, spanSkipped, packetAt}
 use Rattle.spans.specs.declared.Span.{Span}
 use Rattle.telling.proofs.MetresThere.{metresThere, there-own, there-none, there-user, there-user-none}

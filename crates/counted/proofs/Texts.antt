@@ -24,7 +24,7 @@ use Rattle.hops.specs.Hops.{levelIn}
 use Rattle.hops.proofs.Bounds.{level-small}
 use Rattle.lists.specs.Lists.{ifSkipped, ifSeen}
 use Rattle.passing.proofs.Passing.{Passed, passed-so, passed-grows, passed-then, passed-one, ruled-run, free-run, free-times}
-use Rattle.spans.specs.Bodies.{textIn, secondLevel, firstLevel, textAt}
+use Rattle.bodies.specs.Bodies.{textIn, secondLevel, firstLevel, textAt}
 use Rattle.counted.proofs.Bodies.{sized-long, sized-through}
 use Rattle.counted.proofs.Levels.{level-passed}
 use Rattle.counted.proofs.Listed.{Through, through-then}

@@ -6,7 +6,7 @@ use borrow.Author.Tests.{ne-eqb}
 use Rattle.bits.specs.Ahead.{behind}
 use Rattle.lists.specs.Lists.{linksAt, levelsAt, choicesAt, circuitsAt}
 use Rattle.wide_lists.specs.WideLists.{speedsAt, positionsAt}
-use Rattle.spans.specs.Bodies.{sizedBy, radioAt, trackAt, restrictedAt, stoppingAt, textAt}
+use Rattle.bodies.specs.Bodies.{sizedBy, radioAt, trackAt, restrictedAt, stoppingAt, textAt}
 use Rattle.spans.specs.Spans.{plain, scaledBy, userAt, nationalAt, kindAt}
 
 -- ---- by NID_PACKET

@@ -1,3 +1,2 @@
--- What each promise of this crate cites, in reading order.
-pub mod Bodies
+-- What the promise of this crate cites.
 pub mod Spans

@@ -10,7 +10,7 @@ use Rattle.bits.specs.declared.Skipped.{Skipped}
 use Rattle.bits.specs.declared.Skipped.the-variants.{To, Lacking}
 use Rattle.lists.specs.Lists.{linksAt, levelsAt, choicesAt, circuitsAt}
 use Rattle.wide_lists.specs.WideLists.{speedsAt, positionsAt}
-use Rattle.spans.specs.Bodies.{sizedBy, radioAt, trackAt, restrictedAt, stoppingAt, textAt}
+use Rattle.bodies.specs.Bodies.{sizedBy, radioAt, trackAt, restrictedAt, stoppingAt, textAt}
 use Rattle.spans.specs.declared.Span.{Span}
 
 abbrev pub span : ℕ → Bool → Span

@@ -5,13 +5,17 @@
 ghost use mathlib.Core.Path.{_≡_};
 ghost use mathlib.Core.Bool.{true};
 ghost use Prim.Native.Nat.{_+_, _*_, _/_, _%_, _^_, _≤_};
-ghost use Rattle.spans.specs.Bodies.{sizedBy, radioAt, trackAt, restrictedAt, stoppingAt, textIn, textAt};
+ghost use Rattle.bodies.specs.Bodies.{sizedBy};
 ghost use Rattle.spans.specs.Spans.{plain, scaledBy, userAt, nationalAt, kindAt, packetAt};
 use bits::Cursor;
 use bits::Skipped;
-use bits::Taken;
 use bits::behind;
-use hops::level;
+use bodies::restricted;
+use bodies::sized;
+use bodies::stopping;
+use bodies::text;
+use bodies::track;
+use bodies::with_radio;
 use packets::Circuits;
 use packets::Conditional;
 use packets::Default;
@@ -102,16 +106,6 @@ fn scaled(q: u64, values: usize) -> Span
     }
 }
 
-// So many values, where it is as long as it is to be.
-fn sized(long: usize, wanted: usize, values: usize) -> usize
-    ensures { λ r. ⌜ r ≡ sizedBy long wanted values ⌝ }
-{
-    if long == wanted {
-        return values;
-    }
-    0
-}
-
 // ETCS-21: D_GRADIENT 15, Q_GDIR 1 and G_A 8, and so many groups of these more, of which no rule reads anything.
 fn gradients(long: usize, times: u64) -> usize
     requires { ⌜ times ≤ 31 ⌝ }
@@ -119,88 +113,6 @@ fn gradients(long: usize, times: u64) -> usize
 {
     let k = times as usize;
     sized(long, 54 + 24 * k, 8 + 3 * k)
-}
-
-// ETCS-42 and ETCS-131, whose NID_RADIO stands so many bits behind their beginning and is all that a rule reads there.
-fn with_radio(
-    s: &[u8],
-    n: usize,
-    start: Cursor,
-    place: usize,
-    long: usize,
-    wanted: usize,
-    values: usize,
-) -> usize
-    ensures { λ r. ⌜ r ≡ radioAt (now (s .entry)) n (start .at) place long wanted values ⌝ }
-{
-    if long != wanted {
-        return 0;
-    }
-    let Skipped::To(c) = start.skip(n, place) else {
-        return 0;
-    };
-    let Taken::Field(high, next) = c.ahead(s, n, 32) else {
-        return 0;
-    };
-    let Taken::Field(low, _) = next.ahead(s, n, 32) else {
-        return 0;
-    };
-    if radio_number::allowed(behind(high, 0, 32) << 32 | behind(low, 0, 32)) {
-        return values;
-    }
-    0
-}
-
-// ETCS-68, with this Q_TRACKINIT.
-fn track(s: &[u8], n: usize, start: Cursor, end: usize, long: usize, initial: u64) -> usize
-    ensures { λ r. ⌜ r ≡ trackAt (now (s .entry)) n end (start .at) long initial ⌝ }
-{
-    if initial == 1 {
-        return sized(long, 41, 6);
-    }
-    lists::conditions(s, n, start, end)
-}
-
-// ETCS-72, with this Q_TEXTCLASS: two levels, and a text of which no rule reads anything.
-fn text(s: &[u8], n: usize, start: Cursor, end: usize, class: u64) -> usize
-    requires { ⌜ n ≤ 830 ⌝ }
-    ensures { λ r. ⌜ r ≡ textAt (now (s .entry)) n end (start .at) class ⌝ }
-{
-    if 1 < class {
-        return 0;
-    }
-    let Skipped::To(first) = start.skip(n, 47) else {
-        return 0;
-    };
-    let Taken::Field(x, _) = first.ahead(s, n, 3) else {
-        return 0;
-    };
-    let bits = level(x, 5);
-    if bits == 0 {
-        return 0;
-    }
-    let Skipped::To(second) = first.skip(n, bits + 29) else {
-        return 0;
-    };
-    let Taken::Field(y, _) = second.ahead(s, n, 3) else {
-        return 0;
-    };
-    characters(end, second, 15 + bits / 8, level(y, 5), y)
-}
-
-// From its second level on, which has so many bits: so many values stand before it.
-fn characters(end: usize, second: Cursor, before: usize, bits: usize, w: u64) -> usize
-    requires { ⌜ (second .at ≤ 830) × (before ≤ 16) × (bits ≤ 11) ⌝ }
-    ensures { λ r. ⌜ r ≡ textIn end (second .at) before bits w ⌝ }
-{
-    if bits == 0 {
-        return 0;
-    }
-    if 2 < behind(w, bits, 2) {
-        return 0;
-    }
-    let k = behind(w, bits + 2, 8) as usize;
-    sized(second.at + bits + 10 + 8 * k, end, before + bits / 8 + k)
 }
 
 // ETCS-44: the CTCS packet inside it has its Q_DIR, and ends where it does.
@@ -229,28 +141,4 @@ fn user(s: &[u8], n: usize, start: Cursor, end: usize, long: usize, w: u64) -> S
         Stopping::ID => plain(stopping(long, behind(w, 47, 1))),
         _ => plain(0),
     }
-}
-
-// CTCS-2: a list of which no rule reads anything.
-fn restricted(s: &[u8], n: usize, start: Cursor, long: usize) -> usize
-    ensures { λ r. ⌜ r ≡ restrictedAt (now (s .entry)) n (start .at) long ⌝ }
-{
-    let Skipped::To(c) = start.skip(n, 102) else {
-        return 0;
-    };
-    let Taken::Field(times, _) = c.take(s, n, 5) else {
-        return 0;
-    };
-    let k = times as usize;
-    sized(long, 107 + 38 * k, 13 + 4 * k)
-}
-
-// CTCS-5, with this Q_STOP.
-fn stopping(long: usize, stop: u64) -> usize
-    ensures { λ r. ⌜ r ≡ stoppingAt long stop ⌝ }
-{
-    if stop != 0 {
-        return 0;
-    }
-    sized(long, 48, 7)
 }

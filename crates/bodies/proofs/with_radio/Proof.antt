@@ -1,4 +1,4 @@
--- `spans::with_radio` meets its contract: the two halves of the number joined. Assumes nothing.
+-- `bodies::with_radio` meets its contract: the two halves of the number joined. Assumes nothing.
 use mathlib.Core.Path.{_≡_, refl, sym, ap, _∙_}
 use Prim.Native.Nat.{ℕ, _*_, _+_, _^_}
 use native.Mathlib.Omega.{arith}
@@ -7,9 +7,9 @@ use denote.Ref.{now}
 use lib.Bits.{bitOr}
 use Rattle.bits.specs.Ahead.{behind}
 use borrow.Author.Tests.{not-true, not-false}
-use Rattle.spans.proofs.Tests.{radio-long, radio-lacking, high-short, low-short, radio-broken, radio-kept, halves}
-use Rattle.spans.proofs.with_radio.Statement.{statement}
-use Rattle.spans.proofs.with_radio.Tie as tie
+use Rattle.bodies.proofs.Tests.{radio-long, radio-lacking, high-short, low-short, radio-broken, radio-kept, halves}
+use Rattle.bodies.proofs.with_radio.Statement.{statement}
+use Rattle.bodies.proofs.with_radio.Tie as tie
 
 returns : tie.Need-returns
 returns c = let a = c .before .before .args in radio-long (now (a .s)) (a .n) (a .start .at) (a .place) (a .long) (a .wanted) (a .values) (c .if1 .taken)

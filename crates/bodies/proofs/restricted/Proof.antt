@@ -1,13 +1,13 @@
--- `spans::restricted` meets its contract. Assumes nothing.
+-- `bodies::restricted` meets its contract. Assumes nothing.
 use mathlib.Core.Path.{_≡_, refl, sym, ap, _∙_}
 use Prim.Native.Nat.{_≤_}
 use native.Mathlib.Omega.{arith}
 use borrow.Author.Needs.{needs}
 use denote.Ref.{now}
 use Rattle.bits.proofs.Fields.{taken}
-use Rattle.spans.proofs.Tests.{restricted-lacking, restricted-short, restricted-taken}
-use Rattle.spans.proofs.restricted.Statement.{statement}
-use Rattle.spans.proofs.restricted.Tie as tie
+use Rattle.bodies.proofs.Tests.{restricted-lacking, restricted-short, restricted-taken}
+use Rattle.bodies.proofs.restricted.Statement.{statement}
+use Rattle.bodies.proofs.restricted.Tie as tie
 
 skip-requires : tie.Need-skip-requires
 skip-requires c κs = search needs

@@ -1,11 +1,11 @@
--- `spans::stopping` meets its contract. Assumes nothing.
+-- `bodies::stopping` meets its contract. Assumes nothing.
 use mathlib.Core.Path.{_≡_, refl, sym, ap, _∙_}
 use native.Mathlib.Omega.{arith}
 use borrow.Author.Needs.{needs}
 use denote.Ref.{now}
-use Rattle.spans.proofs.Tests.{stopping-over, stopping-kept}
-use Rattle.spans.proofs.stopping.Statement.{statement}
-use Rattle.spans.proofs.stopping.Tie as tie
+use Rattle.bodies.proofs.Tests.{stopping-over, stopping-kept}
+use Rattle.bodies.proofs.stopping.Statement.{statement}
+use Rattle.bodies.proofs.stopping.Tie as tie
 
 returns : tie.Need-returns
 returns c = let a = c .before .args in stopping-over (a .long) (a .stop) (c .if1 .taken)

@@ -1,11 +1,11 @@
--- `spans::sized` meets its contract. Assumes nothing.
+-- `bodies::sized` meets its contract. Assumes nothing.
 use mathlib.Core.Path.{_≡_, refl, sym, ap, _∙_}
 use native.Mathlib.Omega.{arith}
 use borrow.Author.Needs.{needs}
 use denote.Ref.{now}
-use Rattle.spans.proofs.Tests.{sized-so, sized-else}
-use Rattle.spans.proofs.sized.Statement.{statement}
-use Rattle.spans.proofs.sized.Tie as tie
+use Rattle.bodies.proofs.Tests.{sized-so, sized-else}
+use Rattle.bodies.proofs.sized.Statement.{statement}
+use Rattle.bodies.proofs.sized.Tie as tie
 
 returns : tie.Need-returns
 returns c = let a = c .before .args in sized-so (a .long) (a .wanted) (a .values) (omega arith)

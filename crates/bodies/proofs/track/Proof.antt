@@ -1,11 +1,11 @@
--- `spans::track` meets its contract. Assumes nothing.
+-- `bodies::track` meets its contract. Assumes nothing.
 use mathlib.Core.Path.{_≡_, refl, sym, ap, _∙_}
 use native.Mathlib.Omega.{arith}
 use borrow.Author.Needs.{needs}
 use denote.Ref.{now}
-use Rattle.spans.proofs.Tests.{track-first, track-list}
-use Rattle.spans.proofs.track.Statement.{statement}
-use Rattle.spans.proofs.track.Tie as tie
+use Rattle.bodies.proofs.Tests.{track-first, track-list}
+use Rattle.bodies.proofs.track.Statement.{statement}
+use Rattle.bodies.proofs.track.Tie as tie
 
 sized-requires : tie.Need-sized-requires
 sized-requires c κs = search needs

@@ -1,14 +1,13 @@
--- `spans::text` meets its contract. Assumes nothing.
+-- `bodies::text` meets its contract. Assumes nothing.
 use mathlib.Core.Path.{_≡_, refl, sym, ap, _∙_}
 use Prim.Native.Nat.{_+_, _≤_}
 use native.Mathlib.Omega.{arith}
 use borrow.Author.Needs.{needs}
 use denote.Ref.{now}
-use Rattle.bits.proofs.Fields.{skipped}
 use Rattle.hops.proofs.Bounds.{level-small}
-use Rattle.spans.proofs.Tests.{class-over, text-lacking, level-short, level-none, second-lacking, second-short, second-seen}
-use Rattle.spans.proofs.text.Statement.{statement}
-use Rattle.spans.proofs.text.Tie as tie
+use Rattle.bodies.proofs.Tests.{class-over, text-lacking, level-short, level-none, second-lacking, second-short, second-seen}
+use Rattle.bodies.proofs.text.Statement.{statement}
+use Rattle.bodies.proofs.text.Tie as tie
 
 returns : tie.Need-returns
 returns c = let a = c .before .before .args in class-over (now (a .s)) (a .n) (a .end) (a .start .at) (a .class) (omega arith)
@@ -93,11 +92,9 @@ level-requires-2 c κs = search needs
 
 characters-requires : tie.Need-characters-requires
 characters-requires c κs =
-    let a = c .before .before .before .before .before .before .before .before .before .before .before .before .before .before .before .before .before .before .before .before .before .args in
-    let p = skipped (a .n) (c .before .before .before .before .before .before .before .before .before .before .level .result + 29) _ _ (sym (c .before .before .before .before .before .before .before .before .skip2 .ensures) ∙ c .before .before .before .before .before .before .second .given .1) in
     let f : c .before .before .before .before .before .before .before .before .before .before .level .result ≤ 11 = rw (c .before .before .before .before .before .before .before .before .before .before .level .ensures) (level-small 5 _) in
     let g : c .level2 .result ≤ 11 = rw (c .level2 .ensures) (level-small 5 _) in
-    (omega (arith, p .within, p .past, c .before .before .before .before .before .before .before .before .before .before .before .before .before .before .before .before .before .before .before .before .before .pre), omega (arith, f), g)
+    (omega (arith, f), g)
 
 returns-7 : tie.Need-returns-7
 returns-7 c =
