@@ -1,4 +1,4 @@
--- Packets that are counted whole keep their rules, in reading order.
+-- Packets that are counted whole keep their rules, and where all of them are in metres a copy is the normal form, in reading order.
 pub mod Tests
 pub mod Groups
 pub mod Levels
@@ -10,3 +10,4 @@ pub mod Radios
 pub mod Texts
 pub mod EachKind
 pub mod Spans
+pub mod Copied

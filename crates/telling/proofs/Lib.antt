@@ -16,3 +16,4 @@ pub mod ScaledKinds
 pub mod UserKinds
 pub mod Far
 pub mod MetresThere
+pub mod Hopped
