@@ -58,6 +58,9 @@ module _ (s : List ℕ) (n : ℕ) {after : machine.State} (e : frontOf s n ≡ T
       let i = rw (fronted .state) at (scans-fronted s n words low (f .room) refl fronted) in
       record { pig = _; earlier = _; stood = fresh-stood i; known = pig-in; behind = omega arith }
 
+  pub front-at : after .at ≡ 50
+  front-at = rw (fronted .state)
+
   -- at the bit where the state is that it leads to
   pub edge-front : n ≤ 830 → Edge s n (after .at) 10
   edge-front low = rw (fronted .state) (edge-first low)

@@ -1,7 +1,8 @@
 // Normalising a telegram: what it says, told in metres wherever a packet can be.
 //
-// A refusal changes no output, so normalising checks first, and tells in a second run, which follows the rows alone. At a scale the run
-// looks ahead, up to the next one, whether every distance is a whole number of metres that fits its field.
+// A refusal changes no output, so normalising checks first. A telegram of which the check saw that each packet is in metres or has no scale is copied; any other is
+// told in a second run, which follows the rows alone. At a scale the run looks ahead, up to the next one, whether every distance is a whole number of metres that
+// fits its field.
 ghost use mathlib.Core.Path.{_≡_};
 ghost use mathlib.Core.List.{_++_};
 ghost use Prim.Native.Nat.{_^_, _<_, _≤_};
@@ -15,7 +16,7 @@ ghost use Rattle.states.specs.Machine.{InTable};
 ghost use Rattle.states.specs.Normaliser.{Normalise, Telling, Patching, Normalised, converted, Rescaled, Tells, Sendable, Looked};
 use crate::answer::refuse;
 use crate::driver::drift;
-use crate::reader::check;
+use crate::reader::find;
 use crate::rows::code;
 use crate::rows::width;
 use crate::todo::advance;
@@ -41,10 +42,15 @@ pub fn normalise(s: &[u8], n: usize, out: &mut [u8]) -> Answer
     if out.len() < 104 {
         return refuse(Kind::Room, 0);
     }
-    let a = check(s, n);
+    let f = find(s, n);
+    let a = f.answer;
     let Answer::Accepted(_) = a else {
         return a;
     };
+    if f.metric {
+        copy(s, out);
+        return Answer::Accepted(n);
+    }
     tell(s, n, out);
     Answer::Accepted(n)
 }

@@ -1,7 +1,7 @@
 // Checking and reading a telegram: the machine driven by bits.
 //
 // A refusal changes no output, so reading checks first, and stores in a second run, which follows the rows alone.
-ghost use mathlib.Core.Bool.{false};
+ghost use mathlib.Core.Bool.{true, false};
 ghost use mathlib.Core.Path.{_≡_};
 ghost use Prim.Native.Nat.{_*_, _≤_};
 ghost use lib.ListN.{length, take};
@@ -13,6 +13,7 @@ ghost use Rattle.format.specs.Telegrams as telegrams;
 ghost use Rattle.states.specs.Reader.{clear, checked, answerOf, Read};
 ghost use Rattle.states.specs.Filling.{Filling, Filled};
 ghost use Rattle.states.proofs.Scanning.{Scans};
+ghost use Rattle.counted.proofs.Copied.{Metric};
 ghost use Rattle.passing.proofs.Sweeping.{Sweeps};
 use crate::answer::refuse;
 use crate::answer::refused;
@@ -43,17 +44,43 @@ use states::Todo;
 pub fn check(s: &[u8], n: usize) -> Answer
     ensures { λ r. ⌜ inNumbers r ≡ inNumbers (answerOf (checked paper (now (s .entry)) n)) ⌝ }
 {
+    let f = find(s, n);
+    f.answer
+}
+
+// What the check finds: its answer, and whether it saw that every packet is in metres or has no scale.
+pub(crate) struct Found {
+    pub answer: Answer,
+    pub metric: bool,
+}
+
+// The check, by whole packets as far as they go, and field by field from there on.
+pub(crate) fn find(s: &[u8], n: usize) -> Found
+    ensures { λ r. ⌜ (inNumbers (r .answer) ≡ inNumbers (answerOf (checked paper (now (s .entry)) n))) × (r .metric ≡ true → Metric (now (s .entry)) n) ⌝ }
+{
     if !sized(s, n) {
-        return refuse(Kind::Size, 0);
+        return unmarked(refuse(Kind::Size, 0));
     }
     if !clear(s, n) {
-        return refuse(Kind::Padding, 0);
+        return unmarked(refuse(Kind::Padding, 0));
     }
     let w = sweep(s, n);
     if w.over {
-        return Answer::Accepted(w.count);
+        return Found {
+            answer: Answer::Accepted(w.count),
+            metric: w.metric,
+        };
     }
-    exact(s, n, w.at, w.count)
+    unmarked(exact(s, n, w.at, w.count))
+}
+
+fn unmarked(answer: Answer) -> Found
+    ensures { λ r. ⌜ (r .answer ≡ answer) × (r .metric ≡ false) ⌝ }
+{
+    Found {
+        answer,
+        metric: false,
+    }
 }
 
 // Reads a telegram into out, one value a field in order of sending, and answers their count. A refusal leaves out as it was.

@@ -13,12 +13,12 @@ behind-requires : tie.Need-behind-requires
 behind-requires c κs = search needs
 
 returns-2 : tie.Need-returns-2
-returns-2 c = 
+returns-2 c =
     let a = c .before .before .before .args in
     confirm-over (a .end) (a .second .at) (a .before) (a .bits) (a .w) (c .before .before .if1 .left) (c .before .behind .result) (c .before .behind .ensures) (omega arith)
 
 returns-3 : tie.Need-returns-3
-returns-3 c = 
+returns-3 c =
     let a = c .before .before .before .before .before .args in
     text-astray (a .end) (a .second .at) (a .before) (a .bits) (a .w) (c .before .before .before .before .if1 .left) (c .before .before .before .behind .result) (c .before .before .before .behind .ensures) (omega arith) (omega arith)
 
@@ -47,7 +47,7 @@ sized-requires : tie.Need-sized-requires
 sized-requires c κs = search needs
 
 returns-4 : tie.Need-returns-4
-returns-4 c = 
+returns-4 c =
     let a = c .before .before .before .before .before .before .before .before .args in
     c .sized .ensures
     ∙ text-kept (a .end) (a .second .at) (a .before) (a .bits) (a .w) (c .before .before .before .before .before .before .before .if1 .left) (c .before .before .before .before .before .before .behind .result) (c .before .before .before .before .before .before .behind .ensures) (omega arith) (c .before .before .behind2 .result)
