@@ -50,7 +50,7 @@ returns-3 c =
     let t = tellable s (a .n) out (c .before .before .before .before .before .before .before .before .if1 .left) e (c .before .before .before .before .before .enum-told .given .1) in
     let b = below-known 256 s (λ i. c .before .before .before .before .before .before .before .before .before .before .shared-slice-known .given i .fits) in
     normalises-accepted s (a .n) out (c .before .before .before .before .before .before .before .before .if1 .left) e (c .before .before .before .before .before .enum-told .given .1) _
-    (rw (c .before .before .copy .ensures) (copied t b (f .1 (c .before .before .before .if2 .taken))))
+    (rw (c .before .before .copy .ensures) (copied t b (f .1 (c .before .before .before .before .if2 .taken))))
 
 tell-requires : tie.Need-tell-requires
 tell-requires c κs =
