@@ -1,0 +1,2 @@
+-- What the promise of this crate cites.
+pub mod Readings
