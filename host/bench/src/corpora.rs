@@ -1,5 +1,6 @@
 //! The telegrams that are timed: all are accepted.
 
+use plain::corpus::draft::{Draft, Mark};
 use plain::corpus::packets::packet;
 use plain::corpus::random::Random;
 use plain::corpus::sound::{end, full, header};
@@ -9,8 +10,11 @@ use plain::worked::{self, Cell};
 const TELEGRAMS: usize = 600;
 const END_BITS: usize = 8;
 
+/// What the names of those rows begin with that are held out.
+pub const HELD_OUT: &str = "held out, ";
+
 pub struct Corpus {
-    pub name: &'static str,
+    pub name: String,
     pub telegrams: Vec<Telegram>,
 }
 
@@ -30,38 +34,55 @@ const FUNCTIONS: [&[(u64, u64)]; 6] = [
     &[(42, 1), (131, 1), (79, 2)],
 ];
 
-pub fn all() -> Vec<Corpus> {
-    let mut random = Random::new(1);
-    let empty = Telegram::of(&worked::telegram(&[]).bits());
-    vec![
-        Corpus {
-            name: "empty, 58 bits",
-            telegrams: vec![empty; TELEGRAMS],
-        },
-        Corpus {
-            name: "as in Annex B",
-            telegrams: (0..TELEGRAMS)
-                .map(|k| function(&mut random, FUNCTIONS[k % FUNCTIONS.len()]))
-                .collect(),
-        },
-        Corpus {
-            name: "830 bits",
-            telegrams: (0..TELEGRAMS)
-                .map(|_| Telegram::of(&full(&mut random).bits()))
-                .collect(),
-        },
-        counted("1 packet", &mut random, 1),
-        counted("10 packets", &mut random, 10),
-        counted("20 packets, 830 bits", &mut random, 20),
-    ]
+/// What the code was tried with while it was picked: the same at each run.
+pub fn known() -> Vec<Corpus> {
+    of_every_kind(&mut Random::new(1), |_| worked::draft(&worked::HEADER))
 }
 
-/// Telegrams of so many short packets.
-fn counted(name: &'static str, random: &mut Random, packets: usize) -> Corpus {
-    let telegrams = (0..TELEGRAMS)
-        .map(|_| Telegram::of(&worked::telegram(&short(random)[..packets]).bits()))
-        .collect();
-    Corpus { name, telegrams }
+/// As many of every kind from another seed, by which nobody picked the code.
+///
+/// Of telegrams that are empty or of short packets, a seed decides no more than the order of the packets: here it draws their headers too, so
+/// that they are others than the known ones.
+pub fn held_out(seed: u64) -> Vec<Corpus> {
+    let mut corpora = of_every_kind(&mut Random::new(seed), header);
+    for corpus in &mut corpora {
+        corpus.name.insert_str(0, HELD_OUT);
+    }
+    corpora
+}
+
+/// `head` makes the headers of those that are empty or of short packets.
+fn of_every_kind(random: &mut Random, head: fn(&mut Random) -> Draft) -> Vec<Corpus> {
+    let mut functions = FUNCTIONS.iter().cycle();
+    let mut function = |random: &mut Random| function(random, functions.next().unwrap());
+    let corpora = [
+        ("empty, 58 bits", drawn(|| end(head(random)))),
+        ("as in Annex B", drawn(|| function(random))),
+        ("830 bits", drawn(|| full(random))),
+        ("1 packet", drawn(|| counted(random, head, 1))),
+        ("10 packets", drawn(|| counted(random, head, 10))),
+        ("20 packets, 830 bits", drawn(|| counted(random, head, 20))),
+    ];
+    let named = corpora.map(|(name, telegrams)| Corpus {
+        name: name.to_string(),
+        telegrams,
+    });
+    named.into()
+}
+
+fn drawn(mut draw: impl FnMut() -> Draft) -> Vec<Telegram> {
+    (0..TELEGRAMS)
+        .map(|_| Telegram::of(&draw().bits()))
+        .collect()
+}
+
+/// A telegram of so many short packets.
+fn counted(random: &mut Random, head: fn(&mut Random) -> Draft, packets: usize) -> Draft {
+    let mut draft = head(random);
+    for (width, value) in short(random)[..packets].concat() {
+        draft.put(Mark::Plain, width, value);
+    }
+    end(draft)
 }
 
 /// Twenty packets that may stand together and just have room, in any order: eleven of six kinds, and nine ETCS-44.
@@ -82,7 +103,7 @@ fn short(random: &mut Random) -> Vec<Vec<Cell>> {
 }
 
 /// A telegram with these packets, each with an even share of the room that is left for its lists.
-fn function(random: &mut Random, packets: &[(u64, u64)]) -> Telegram {
+fn function(random: &mut Random, packets: &[(u64, u64)]) -> Draft {
     loop {
         let mut draft = header(random);
         for (k, (id, direction)) in packets.iter().enumerate() {
@@ -95,9 +116,10 @@ fn function(random: &mut Random, packets: &[(u64, u64)]) -> Telegram {
                 room / (packets.len() - k),
             );
         }
-        let telegram = Telegram::of(&end(draft).bits());
+        let draft = end(draft);
+        let telegram = Telegram::of(&draft.bits());
         if plain::check(&telegram.bytes, telegram.n).is_ok() {
-            return telegram;
+            return draft;
         }
     }
 }

@@ -1,6 +1,7 @@
 //! The line programs on one file of 200,000 lines.
 
 use crate::ratio::Ratios;
+use crate::table::print_row;
 use plain::corpus::draft::unpack;
 use plain::corpus::Corpus;
 use std::fs::{self, File};
@@ -11,7 +12,7 @@ use std::time::Instant;
 const LINES: usize = 200_000;
 const REPEATS: usize = 9;
 
-pub fn report(proved: &str, independent: &str, folder: &str) {
+pub fn report([proved, independent]: [&str; 2], folder: &str) {
     let input = format!("{folder}/lines.in");
     write_input(&input);
     let mut ratios = Ratios::default();
@@ -24,7 +25,8 @@ pub fn report(proved: &str, independent: &str, folder: &str) {
     let same = fs::read(format!("{folder}/lines.1")).unwrap()
         == fs::read(format!("{folder}/lines.2")).unwrap();
     assert!(same, "the two programs answer differently");
-    ratios.print("200,000 lines", "program", "ms");
+    let name = format!("200,000 lines, {REPEATS} repeats");
+    print_row(&name, "program", "ms", &ratios, None);
 }
 
 /// Accepted and refused telegrams, one a line.

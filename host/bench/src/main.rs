@@ -1,73 +1,61 @@
-//! Times the proved check, normaliser, message of a group and line program beside the independent ones, in one run, and prints the ratios.
+//! Times the proved check, normaliser, message of a group and line program beside the independent ones, in one run, and prints the ratios; and counts
+//! the instructions of check and normaliser.
 //!
-//! `bench PROVED-LINES INDEPENDENT-LINES FOLDER`: the two line programs, and a folder for their input.
+//! `bench PROVED-LINES INDEPENDENT-LINES FOLDER SEED`: the two line programs, a folder for files, and what decides the telegrams and groups that are
+//! held out.
+//!
+//! `bench go-over FUNCTION ROUNDS`: what is counted, with telegrams on standard input. The program runs itself so.
 
 mod corpora;
+mod functions;
 mod groups;
+mod instructions;
 mod lines;
 mod proved;
 mod ratio;
+mod table;
 
-use corpora::Corpus;
-use plain::corpus::Telegram;
-use ratio::Ratios;
-use std::hint::black_box;
-use std::time::Instant;
+use functions::Function;
+use instructions::{Counter, GO_OVER};
+use std::process::ExitCode;
 
-const ROUNDS: usize = 20;
-const REPEATS: usize = 41;
-
-fn main() {
+fn main() -> ExitCode {
     let arguments: Vec<String> = std::env::args().skip(1).collect();
-    println!(
-        "{:28} {:>10} {:>12} {:>12} {:>7}   of {REPEATS} repeats",
-        "", "", "proved", "independent", "ratio"
-    );
-    for corpus in corpora::all() {
-        functions(&corpus);
-    }
-    groups::report();
-    if let [proved, independent, folder] = &arguments[..] {
-        lines::report(proved, independent, folder);
-    }
-}
-
-fn functions(corpus: &Corpus) {
-    let mut out = [0; 104];
-    let mut check = Ratios::default();
-    let mut normalise = Ratios::default();
-    for _ in 0..REPEATS {
-        check.add(
-            time(corpus, |t| proved::check(&t.bytes, t.n) == 0),
-            time(corpus, |t| independent_check(&t.bytes, t.n)),
-        );
-        normalise.add(
-            time(corpus, |t| proved::normalise(&t.bytes, t.n, &mut out) == 0),
-            time(corpus, |t| independent_normalise(&t.bytes, t.n, &mut out)),
-        );
-    }
-    check.print(corpus.name, "check", "ns");
-    normalise.print(corpus.name, "normalise", "ns");
-}
-
-// As far as the proved functions are behind the C face, these are behind a call of their own.
-#[inline(never)]
-fn independent_check(bytes: &[u8], n: u64) -> bool {
-    plain::check(bytes, n).is_ok()
-}
-
-#[inline(never)]
-fn independent_normalise(bytes: &[u8], n: u64, out: &mut [u8]) -> bool {
-    plain::normalise(bytes, n, out).is_ok()
-}
-
-/// The mean time of one telegram, in nanoseconds.
-fn time(corpus: &Corpus, mut accepts: impl FnMut(&Telegram) -> bool) -> f64 {
-    let start = Instant::now();
-    for _ in 0..ROUNDS {
-        for telegram in &corpus.telegrams {
-            assert!(black_box(accepts(black_box(telegram))));
+    let words: Vec<&str> = arguments.iter().map(String::as_str).collect();
+    match run(&words) {
+        Some(()) => ExitCode::SUCCESS,
+        None => {
+            eprintln!("use: bench PROVED-LINES INDEPENDENT-LINES FOLDER SEED");
+            eprintln!("     bench {GO_OVER} FUNCTION ROUNDS < TELEGRAMS");
+            ExitCode::FAILURE
         }
     }
-    start.elapsed().as_nanos() as f64 / (ROUNDS * corpus.telegrams.len()) as f64
+}
+
+/// Nothing where the words are not those of the two uses.
+fn run(words: &[&str]) -> Option<()> {
+    match *words {
+        [GO_OVER, function, rounds] => {
+            instructions::go_over(Function::named(function)?, rounds.parse().ok()?);
+        }
+        [proved, independent, folder, seed] => {
+            report([proved, independent], folder, seed.parse().ok()?);
+        }
+        _ => return None,
+    }
+    Some(())
+}
+
+fn report(line_programs: [&str; 2], folder: &str, seed: u64) {
+    let counter = Counter::new(folder);
+    if counter.is_none() {
+        println!("instructions: valgrind is not here");
+    }
+    table::print_heading(counter.is_some());
+    functions::report(&corpora::known(), counter.as_ref());
+    groups::report_known();
+    lines::report(line_programs, folder);
+    println!("\nheld out: made with the seed {seed}, by which nobody picked the code");
+    functions::report(&corpora::held_out(seed), counter.as_ref());
+    groups::report_held_out(seed);
 }

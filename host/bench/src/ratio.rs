@@ -1,5 +1,8 @@
 //! Two times measured by turns, and how they compare.
 
+/// One more than a multiple of four, so that the median and the quartiles are ratios that were measured.
+pub const REPEATS: usize = 21;
+
 #[derive(Default)]
 pub struct Ratios {
     proved: Vec<f64>,
@@ -12,32 +15,40 @@ impl Ratios {
         self.independent.push(independent);
     }
 
-    /// The medians, the median ratio, and the least and the greatest ratio of one repeat.
-    pub fn print(&self, corpus: &str, what: &str, unit: &str) {
-        let ratios: Vec<f64> = self
-            .proved
-            .iter()
-            .zip(&self.independent)
-            .map(|(p, i)| p / i)
-            .collect();
-        let ratios = sorted(&ratios);
-        println!(
-            "{corpus:28} {what:>10} {:>9.1} {unit} {:>9.1} {unit} {:>7.2}   {:.2} to {:.2}",
-            middle(&sorted(&self.proved)),
-            middle(&sorted(&self.independent)),
-            middle(&ratios),
-            ratios[0],
-            ratios[ratios.len() - 1]
-        );
+    pub fn proved(&self) -> f64 {
+        Spread::of(self.proved.iter().copied()).median
+    }
+
+    pub fn independent(&self) -> f64 {
+        Spread::of(self.independent.iter().copied()).median
+    }
+
+    /// How the ratios of single repeats are spread: what slows the machine down for a while slows both times of a repeat.
+    pub fn spread(&self) -> Spread {
+        let both = self.proved.iter().zip(&self.independent);
+        Spread::of(both.map(|(proved, independent)| proved / independent))
     }
 }
 
-fn sorted(times: &[f64]) -> Vec<f64> {
-    let mut times = times.to_vec();
-    times.sort_by(f64::total_cmp);
-    times
+pub struct Spread {
+    pub least: f64,
+    pub lower_quartile: f64,
+    pub median: f64,
+    pub upper_quartile: f64,
+    pub greatest: f64,
 }
 
-fn middle(sorted: &[f64]) -> f64 {
-    sorted[sorted.len() / 2]
+impl Spread {
+    fn of(values: impl Iterator<Item = f64>) -> Self {
+        let mut sorted: Vec<f64> = values.collect();
+        sorted.sort_by(f64::total_cmp);
+        let after_quarters = |quarters| sorted[(sorted.len() - 1) * quarters / 4];
+        Spread {
+            least: after_quarters(0),
+            lower_quartile: after_quarters(1),
+            median: after_quarters(2),
+            upper_quartile: after_quarters(3),
+            greatest: after_quarters(4),
+        }
+    }
 }

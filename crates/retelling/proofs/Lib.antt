@@ -1,0 +1,3 @@
+-- Distances by the code, and one outcome to the promise.
+pub mod Distances
+pub mod Once

@@ -1,0 +1,9 @@
+-- The promise of this crate is met by one outcome alone. Assumes nothing.
+use mathlib.Core.Path.{refl, sym, ap, _∙_}
+use mathlib.Core.List.{List}
+use Prim.Native.Nat.{ℕ}
+use Rattle.bits.proofs.Once.{OneOutcome}
+use Rattle.retelling.proofs.retell
+
+pub retell-once : OneOutcome retell.ended retell.Reads.Post
+retell-once κs args r t u v p q = ?

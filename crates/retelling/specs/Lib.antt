@@ -1,0 +1,2 @@
+-- What each promise of this crate cites.
+pub mod Retold
