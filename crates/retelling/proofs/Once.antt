@@ -6,4 +6,4 @@ use Rattle.bits.proofs.Once.{OneOutcome}
 use Rattle.retelling.proofs.retell
 
 pub retell-once : OneOutcome retell.ended retell.Reads.Post
-retell-once κs args r t u v p q = ?
+retell-once κs args r t u v p q = (refl, ap (λ (out : List ℕ). (u .0, (u .1 .0, (out, u .1 .1 .1)))) (p ∙ sym q))

@@ -291,13 +291,17 @@ fn group_end(s: &[u8], g: Group, x: usize) -> usize
 // Where its first distance stands.
 fn first(s: &[u8], g: Group, x: usize) -> usize
     requires { ⌜ (length (now s) ≤ 104) × (x ≤ 20000) ⌝ }
-    ensures { λ r. ⌜ (r ≡ firstOf g (now (s .entry)) x) × (r ≤ x + 25) ⌝ }
+    ensures { λ r. ⌜ (r ≡ firstOf g (now (s .entry)) x) × (r ≤ x + 100) ⌝ }
 {
     match g {
+        Group::Links => x,
+        Group::Slopes => x,
+        Group::Profiles => x,
         Group::Levels => x + either(s, x, 3, 11, 3),
+        Group::Conditions => x,
         Group::Places => x + either(s, x, 1, 25, 15),
         Group::Sections => x + 9,
-        _ => x,
+        Group::Restrictions => x,
     }
 }
 
@@ -311,10 +315,14 @@ fn group_whole(s: &[u8], q: u64, g: Group, x: usize) -> bool
         return false;
     }
     match g {
+        Group::Links => true,
+        Group::Slopes => true,
+        Group::Profiles => true,
+        Group::Levels => true,
         Group::Conditions => whole(s, q, d + 15, 15),
-        Group::Restrictions => whole(s, q, d + 15, 15),
         Group::Places => whole(s, q, d + 16, 20),
-        _ => true,
+        Group::Sections => true,
+        Group::Restrictions => whole(s, q, d + 15, 15),
     }
 }
 
@@ -326,10 +334,14 @@ fn group_put(s: &[u8], q: u64, g: Group, x: usize, out: &mut [u8])
     let d = first(s, g, x);
     put(s, q, d, 15, out);
     match g {
+        Group::Links => {}
+        Group::Slopes => {}
+        Group::Profiles => {}
+        Group::Levels => {}
         Group::Conditions => put(s, q, d + 15, 15, out),
-        Group::Restrictions => put(s, q, d + 15, 15, out),
         Group::Places => put(s, q, d + 16, 20, out),
-        _ => {}
+        Group::Sections => {}
+        Group::Restrictions => put(s, q, d + 15, 15, out),
     }
 }
 
@@ -337,8 +349,8 @@ fn group_put(s: &[u8], q: u64, g: Group, x: usize, out: &mut [u8])
 
 // One of two numbers: the first if so many bits hold 1.
 fn either(s: &[u8], at: usize, wide: usize, yes: usize, no: usize) -> usize
-    requires { ⌜ (length (now s) ≤ 104) × (wide ≤ 25) ⌝ }
-    ensures { λ r. ⌜ r ≡ cond (eqb (numberIn (now (s .entry)) wide at) 1) yes no ⌝ }
+    requires { ⌜ (length (now s) ≤ 104) × (wide ≤ 25) × (yes ≤ 100) × (no ≤ 100) ⌝ }
+    ensures { λ r. ⌜ (r ≡ cond (eqb (numberIn (now (s .entry)) wide at) 1) yes no) × (r ≤ 100) ⌝ }
 {
     if number(s, at, wide) == 1 {
         return yes;
