@@ -11,3 +11,4 @@ pub mod Texts
 pub mod EachKind
 pub mod Spans
 pub mod Copied
+pub mod Patched
