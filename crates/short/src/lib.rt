@@ -1,32 +1,21 @@
 // The short ways: which fields need not be read, and which values need nothing of where a telegram stands. Both go by the rest of a row, as
-// `table` packs it. Beside them how a field counts (`views`) and how long a telegram and a value may be (`size`), which need no table.
+// `table` packs it. Beside them how long a telegram and a value may be (`size`), which needs no table.
 ghost use mathlib.Core.Path.{_≡_};
 ghost use Rattle.states.specs.Machine.{unread, slight};
 
 mod size;
-mod views;
 
 pub use size::fitting;
 pub use size::sized;
 use states::codes::SEND;
-pub use views::counts;
 
-// Whether a field steers nothing and may be gone past: in a telegram that is told again, where it is no scale and no distance; and else,
-// where it may hold anything and nothing is kept of it. a: what stands in its row. r: the rest of its row.
-pub fn unread(a: u32, r: u32, told: bool) -> bool
-    ensures { λ x. ⌜ x ≡ unread told a r ⌝ }
+// Whether a field steers nothing, may hold anything and nothing is kept of it, so that it may be gone past. a: what stands in its row. r: the rest of
+// its row.
+pub fn unread(a: u32, r: u32) -> bool
+    ensures { λ x. ⌜ x ≡ unread a r ⌝ }
 {
     if a != SEND {
         return false;
-    }
-    if told {
-        if r == 0 {
-            return true;
-        }
-        if r < 3 {
-            return false;
-        }
-        return r / 16 != 2;
     }
     r < 3
 }

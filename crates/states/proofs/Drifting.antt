@@ -1,17 +1,17 @@
 -- What the loop goes by that goes past fields unread. Assumes nothing.
-use mathlib.Core.Bool.{Bool, true, false, cond, not, _&&_, _||_}
+use mathlib.Core.Bool.{Bool, true, cond}
 use mathlib.Core.Path.{_≡_, refl, sym, ap, ap₂, _∙_, subst}
 use Prim.Native.Nat.{ℕ, _+_, _-_, _/_, _≤_, _<_}
 use native.Mathlib.Omega.{arith}
-use borrow.Author.Tests.{eq-eqb, ne-eqb, eqb-true, eqb-false, leb-true, ltb-true, not-true}
-use lib.Dec.{eqb, leb, ltb}
+use borrow.Author.Tests.{eq-eqb, ne-eqb, eqb-true, ltb-true}
+use lib.Dec.{eqb}
 use Rattle.bits.specs.Take.{skipAt}
 use Rattle.bits.specs.declared.Cursor.{Cursor}
 use Rattle.bits.specs.declared.Skipped.{Skipped}
 use Rattle.bits.specs.declared.Skipped.the-variants.{To}
 use Rattle.bits.proofs.Fields.{IsPast, skipped}
 use Rattle.format.specs.Table.{act, jump, rest, fieldAt}
-use Rattle.format.proofs.Rests.{send-free, no-measure}
+use Rattle.format.proofs.Rests.{send-free}
 use Rattle.format.proofs.Rows.{next-in}
 use Rattle.laws.proofs.Sources.{width-positive}
 use Rattle.laws.proofs.Told.{and-two}
@@ -20,47 +20,29 @@ use Rattle.states.specs.Machine.Drifted.{nothing, field}
 use Rattle.states.specs.declared.Todo.{Todo}
 use Rattle.states.proofs.Idling.{idle-ahead}
 
--- what the test of a field says: the two cases of a telegram that is told again and of one that is not
-unread-free : (told : Bool) (k : ℕ) → k < 213 → act k ≡ 2 → cond told (eqb (rest k) 0 || leb 3 (rest k) && not (eqb (rest k / 16) 2)) (ltb (rest k) 3) ≡ true
-    → Unread told k
-unread-free true k l p e = by-test (eqb (rest k) 0) refl e
-  where
-    by-test : (b : Bool) → eqb (rest k) 0 ≡ b → (b || leb 3 (rest k) && not (eqb (rest k / 16) 2)) ≡ true → Unread true k
-    by-test true z h =
-        let x = eqb-true (rest k) 0 z in
-        let c = send-free k l p (omega arith) in
-        (λ y. omega arith, λ y. omega arith, λ y. omega arith)
-    by-test false w h =
-        let d = and-two (leb 3 (rest k)) (not (eqb (rest k / 16) 2)) h in
-        let x = leb-true 3 (rest k) (d .0) in
-        let y = eqb-false (rest k / 16) 2 (not-true _ (d .1)) in
-        let g = no-measure k l p (omega arith) y in
-        (λ y. omega arith, λ y. omega arith, λ y. omega arith)
-unread-free false k l p e =
-    let x = ltb-true (rest k) 3 e in
-    let c = send-free k l p (omega arith) in omega arith
-
-pub unread-so : (told : Bool) (k a r : ℕ) → k < 213 → a ≡ act k → r ≡ rest k → unread told a r ≡ true → (act k ≡ 2) × Unread told k
-unread-so told k a r l ea er h =
-    let d = and-two _ _ (sym (ap₂ (unread told) ea er) ∙ h) in
+-- what the test of a field says
+pub unread-so : (k a r : ℕ) → k < 213 → a ≡ act k → r ≡ rest k → unread a r ≡ true → (act k ≡ 2) × Unread k
+unread-so k a r l ea er h =
+    let d = and-two _ _ (sym (ap₂ unread ea er) ∙ h) in
     let p = eqb-true (act k) 2 (d .0) in
-    (p, unread-free told k l p (d .1))
+    let x = ltb-true (rest k) 3 (d .1) in
+    let c = send-free k l p (omega arith) in (p, omega arith)
 
 -- where a field begins, from first at the bit start on
-pub record Drifting (n : ℕ) (told : Bool) (first : Todo) (start : ℕ) (t : Todo) (at m : ℕ) : Type 0 where
-  pub drifted : Drifted n told first start t at m
+pub record Drifting (n : ℕ) (first : Todo) (start : ℕ) (t : Todo) (at m : ℕ) : Type 0 where
+  pub drifted : Drifted n first start t at m
   pub tidy : Tidy t
   pub few : m + start ≤ at
 
 -- the row behind a field that steers nothing is in the table
-pub after-in : {n : ℕ} {told : Bool} {first : Todo} {start : ℕ} {t : Todo} {at m : ℕ} → Drifting n told first start t at m → act (t .node) ≡ 2
+pub after-in : {n : ℕ} {first : Todo} {start : ℕ} {t : Todo} {at m : ℕ} → Drifting n first start t at m → act (t .node) ≡ 2
     → t .node + 1 < 213
 after-in {t = t} i p = let l = next-in (t .node) (i .tidy .inside) (omega arith) in omega arith
 
-pub drifting-first : {n : ℕ} {told : Bool} {t : Todo} {at : ℕ} → Tidy t → Drifting n told t at t at 0
+pub drifting-first : {n : ℕ} {t : Todo} {at : ℕ} → Tidy t → Drifting n t at t at 0
 drifting-first d = record { drifted = nothing; tidy = d; few = omega arith }
 
-module _ {n : ℕ} {told : Bool} {first : Todo} {start : ℕ} {t : Todo} {at m : ℕ} (i : Drifting n told first start t at m)
+module _ {n : ℕ} {first : Todo} {start : ℕ} {t : Todo} {at m : ℕ} (i : Drifting n first start t at m)
     {w : ℕ} (ew : w ≡ fieldAt (t .node) .width) {r : Skipped} (e : r ≡ skipAt n w at) {next : Cursor} (h : r ≡ To next) where
   gone : IsPast n w at (next .at)
   gone = skipped n w at next (sym e ∙ h)
@@ -71,8 +53,8 @@ module _ {n : ℕ} {told : Bool} {first : Todo} {start : ℕ} {t : Todo} {at m :
   pub nearer : n - next .at < n - at
   nearer = omega (arith, gone .within, gone .past, ew, width-positive (fieldAt (t .node)))
 
-  module _ (p : act (t .node) ≡ 2) (q : Unread told (t .node)) where
-    drifts : Idle t → Drifting n told first start (later t) (next .at) (m + 1)
+  module _ (p : act (t .node) ≡ 2) (q : Unread (t .node)) where
+    drifts : Idle t → Drifting n first start (later t) (next .at) (m + 1)
     drifts idle =
         let there : next .at ≡ at + fieldAt (t .node) .width = rw (← ew) (gone .past) in
         let inside : at + fieldAt (t .node) .width ≤ n = rw (← ew) (gone .within) in
@@ -88,18 +70,18 @@ module _ {n : ℕ} {told : Bool} {first : Todo} {start : ℕ} {t : Todo} {at m :
         cond b (record { node = jump (t .node + 1) + 1; left = t .left - 1; outer = t .outer })
         (record { node = t .node + 1; left = t .left; outer = t .outer })
 
-    pub drifts-next : (act (t .node + 1) ≡ 0 → ⊥) → Drifting n told first start (record { node = t .node + 1; left = t .left; outer = t .outer }) (next .at) (m + 1)
+    pub drifts-next : (act (t .node + 1) ≡ 0 → ⊥) → Drifting n first start (record { node = t .node + 1; left = t .left; outer = t .outer }) (next .at) (m + 1)
     drifts-next z =
-        subst (λ (u : Todo). Drifting n told first start u (next .at) (m + 1)) (ap either (ne-eqb (act (t .node + 1)) 0 z))
+        subst (λ (u : Todo). Drifting n first start u (next .at) (m + 1)) (ap either (ne-eqb (act (t .node + 1)) 0 z))
         (drifts (record { plain = p; again = λ y. absurd (z y) }))
 
     pub drifts-again : act (t .node + 1) ≡ 0 → (jump (t .node + 1) ≡ 0 → ⊥) → (t .left ≡ 0 → ⊥)
-        → Drifting n told first start (record { node = jump (t .node + 1) + 1; left = t .left - 1; outer = t .outer }) (next .at) (m + 1)
+        → Drifting n first start (record { node = jump (t .node + 1) + 1; left = t .left - 1; outer = t .outer }) (next .at) (m + 1)
     drifts-again z j l =
-        subst (λ (u : Todo). Drifting n told first start u (next .at) (m + 1)) (ap either (eq-eqb (act (t .node + 1)) 0 z))
+        subst (λ (u : Todo). Drifting n first start u (next .at) (m + 1)) (ap either (eq-eqb (act (t .node + 1)) 0 z))
         (drifts (record { plain = p; again = λ y. (omega arith, omega arith) }))
 
 -- it goes on, never back
-pub further : {n : ℕ} {told : Bool} {first : Todo} {start : ℕ} {t : Todo} {at m : ℕ} → Drifted n told first start t at m → start ≤ at
+pub further : {n : ℕ} {first : Todo} {start : ℕ} {t : Todo} {at m : ℕ} → Drifted n first start t at m → start ≤ at
 further nothing = omega arith
 further (field d idle q h) = let l = further d in omega arith

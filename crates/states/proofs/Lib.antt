@@ -4,7 +4,6 @@ pub mod Moves
 pub mod Advancing
 pub mod Places
 pub mod Senses
-pub mod Distances
 pub mod Noting
 pub mod Colliding
 pub mod Hopping
@@ -28,11 +27,7 @@ pub mod Valued
 pub mod Storing
 pub mod Labelling
 pub mod Patching
-pub mod Retelling
-pub mod Sending
 pub mod Telling
-pub mod Deciding
-pub mod Quieting
 pub mod Checking
 pub mod Writing
 pub mod Normalising

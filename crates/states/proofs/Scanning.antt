@@ -243,7 +243,7 @@ module _ {s : List ℕ} {n : ℕ} {rows : List ℕ} {st : State} {c : Cursor} {c
 
 -- past fields that no rule reads
 module _ {s : List ℕ} {n : ℕ} {rows : List ℕ} {st : State} {c : Cursor} {count : ℕ} (i : Scans s n rows st c count) where
-  pub scans-drifted : {u : Todo} {x m : ℕ} → Drifted n false (st .todo) (st .at) u x m
+  pub scans-drifted : {u : Todo} {x m : ℕ} → Drifted n (st .todo) (st .at) u x m
       → Scans s n rows (reached st x u) (record { at = x }) (count + m)
   scans-drifted nothing = rw (add-zero count) (scans-here i)
   scans-drifted (field {u} {x} {m} d idle free h) =

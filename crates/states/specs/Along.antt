@@ -22,12 +22,3 @@ pub record Along (s : List ℕ) (n : ℕ) (t : Todo) (at : ℕ) (left : List Ent
   pub onward : Onward t at left
   pub ahead : drop at (take n (bitsOf s)) ≡ bits left
   pub within : n ≤ 8 * length s
-
--- there are such entries
-pub record Some (s : List ℕ) (n : ℕ) (t : Todo) (at : ℕ) : Type 0 where
-  pub left : List Entry
-  pub along : Along s n t at left
-
--- it holds of them, whichever they are
-abbrev pub Whichever : List ℕ → ℕ → Todo → ℕ → (List Entry → Type 0) → Type 0
-Whichever s n t at P = (es : List Entry) → Along s n t at es → P es

@@ -102,22 +102,19 @@ later t =
     cond (eqb (act (t .node + 1)) 0) (record { node = jump (t .node + 1) + 1; left = t .left - 1; outer = t .outer })
     (record { node = t .node + 1; left = t .left; outer = t .outer })
 
--- it need not be read: where a telegram is told again, if it is no scale and no distance; else, if it may hold anything and nothing is
--- kept of it
-abbrev pub Unread : Bool → ℕ → Type 0
-Unread true k =
-    (codeOf (fieldAt k .sense) ≡ 11 → ⊥) × (codeOf (fieldAt k .sense) ≡ 1 → ⊥) × (codeOf (fieldAt k .sense) ≡ 2 → ⊥)
-Unread false k = codeOf (fieldAt k .sense) < 3
+-- it need not be read: it may hold anything, and nothing is kept of it
+abbrev pub Unread : ℕ → Type 0
+Unread k = codeOf (fieldAt k .sense) < 3
 
 -- the same by what stands in the row and by its rest, for a field that steers nothing
-abbrev pub unread : Bool → ℕ → ℕ → Bool
-unread told a r = eqb a 2 && cond told (eqb r 0 || leb 3 r && not (eqb (r / 16) 2)) (ltb r 3)
+abbrev pub unread : ℕ → ℕ → Bool
+unread a r = eqb a 2 && ltb r 3
 
 -- from t at a position, so many such fields up to bit n lead to a todo at another position
-pub data Drifted (n : ℕ) (told : Bool) (t : Todo) (at : ℕ) : Todo → ℕ → ℕ → Type 0 where
-  nothing : Drifted n told t at t at 0
-  field : {u : Todo} {x m : ℕ} → Drifted n told t at u x m → Idle u → Unread told (u .node) → x + fieldAt (u .node) .width ≤ n
-      → Drifted n told t at (later u) (x + fieldAt (u .node) .width) (m + 1)
+pub data Drifted (n : ℕ) (t : Todo) (at : ℕ) : Todo → ℕ → ℕ → Type 0 where
+  nothing : Drifted n t at t at 0
+  field : {u : Todo} {x m : ℕ} → Drifted n t at u x m → Idle u → Unread (u .node) → x + fieldAt (u .node) .width ≤ n
+      → Drifted n t at (later u) (x + fieldAt (u .node) .width) (m + 1)
 
 -- a value of which nothing is kept, and which keeps its rule: a range, or none
 pub record Slight (k v : ℕ) : Type 0 where

@@ -3,7 +3,6 @@
 pub mod codes;
 
 use bits::Cursor;
-use distance::Scale;
 use format::Kind;
 
 // What is to be sent: the items of row node; at the end of their group, the group left times more; and at the end of the group
@@ -72,26 +71,4 @@ pub enum Easy {
 pub enum Begun {
     To(State),
     Not,
-}
-
-// As it is sent; as the scale of what follows; as a distance.
-pub enum View {
-    Kept,
-    Scales,
-    Measures,
-}
-
-// What is sent for a value, and the scales that hold from there on: the telegram's, and the normal form's.
-pub struct Retold {
-    pub value: u64,
-    pub from: Scale,
-    pub to: Scale,
-}
-
-// What a field says to telling the distances up to the next scale in metres: nothing against it, that it cannot be, or that the next
-// scale is here.
-pub enum Look {
-    Passes,
-    Fails,
-    Ends,
 }

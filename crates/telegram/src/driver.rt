@@ -20,16 +20,16 @@ use states::codes::SEND;
 
 // Goes past fields unread, through the cursor, up to one that has to be read, that is the last of its packet or of its list, or that would end
 // past bit n. What follows a field is told apart here in place, so that the processor can guess it.
-pub(crate) fn drift(rows: &[u16; 213], n: usize, told: bool, from: Todo, start: Cursor) -> Reach
+pub(crate) fn drift(rows: &[u16; 213], n: usize, from: Todo, start: Cursor) -> Reach
     requires { ⌜ (now rows ≡ words) × Tidy from ⌝ }
-    ensures { λ r. ⌜ Drifted n told from (start .at) (r .todo) (r .cursor .at) (r .fields) ⌝ }
+    ensures { λ r. ⌜ Drifted n from (start .at) (r .todo) (r .cursor .at) (r .fields) ⌝ }
 {
     let mut t = from;
     let mut c = start;
     let mut fields: usize = 0;
     loop {
         let k = t.node;
-        if !unread(act(rows, k), rest(rows, k), told) {
+        if !unread(act(rows, k), rest(rows, k)) {
             break;
         }
         let Skipped::To(next) = c.skip(n, width(rows, k)) else {

@@ -145,7 +145,7 @@ fn walk(rows: &[u16; 213], s: &[u8], n: usize, from: State, before: usize) -> An
     let mut st = from;
     let mut count = before;
     loop {
-        let g = drift(rows, n, false, st.todo, Cursor { at: st.at });
+        let g = drift(rows, n, st.todo, Cursor { at: st.at });
         let t = g.todo;
         let c = g.cursor;
         st.at = c.at;

@@ -10,10 +10,10 @@ use Rattle.telegram.proofs.driver.drift.Statement.{statement}
 use Rattle.telegram.proofs.driver.drift.Tie as tie
 
 abbrev Inv-loop : tie.InvT-loop
-Inv-loop rows n told t₀ c₀ fields₀ t c fields = Drifting n told t₀ (c₀ .at) t (c .at) fields
+Inv-loop rows n t₀ c₀ fields₀ t c fields = Drifting n t₀ (c₀ .at) t (c .at) fields
 
 abbrev μ-loop : tie.MeasureT-loop
-μ-loop rows n told t₀ c₀ fields₀ t c fields = n - c .at
+μ-loop rows n t₀ c₀ fields₀ t c fields = n - c .at
 
 loop-holds : tie.Need-loop-holds Inv-loop μ-loop
 loop-holds c = drifting-first (c .pre .1)
@@ -44,7 +44,7 @@ add-act c = omega (arith, c .before .before .before .before .before .before .bef
 
 act-requires-2 : tie.Need-act-requires-2 Inv-loop μ-loop
 act-requires-2 c κs =
-    let u = unread-so (c .before .before .before .before .before .before .before .before .before .before .args .told) (c .before .before .before .before .before .before .before .before .before .loop .t .node) _ _ (c .before .before .before .before .before .before .before .before .before .loop .inv .tidy .inside) (c .before .before .before .before .before .before .before .before .act .ensures) (c .before .before .before .before .before .before .before .rest .ensures) (sym (c .before .before .before .before .before .before .unread .ensures) ∙ not-false _ (c .before .before .before .before .before .if1 .left)) in
+    let u = unread-so (c .before .before .before .before .before .before .before .before .before .loop .t .node) _ _ (c .before .before .before .before .before .before .before .before .before .loop .inv .tidy .inside) (c .before .before .before .before .before .before .before .before .act .ensures) (c .before .before .before .before .before .before .before .rest .ensures) (sym (c .before .before .before .before .before .before .unread .ensures) ∙ not-false _ (c .before .before .before .before .before .if1 .left)) in
     record { table = c .before .before .before .before .before .before .before .before .before .before .pre .0; inside = after-in (c .before .before .before .before .before .before .before .before .before .loop .inv) (u .0) }
 
 -- the next row
@@ -60,7 +60,7 @@ loop-less c = nearer (c .before .before .before .before .before .before .before 
 
 loop-again : tie.Need-loop-again Inv-loop μ-loop
 loop-again c =
-    let u = unread-so (c .before .before .before .before .before .before .before .before .before .before .before .before .args .told) (c .before .before .before .before .before .before .before .before .before .before .before .loop .t .node) _ _ (c .before .before .before .before .before .before .before .before .before .before .before .loop .inv .tidy .inside) (c .before .before .before .before .before .before .before .before .before .before .act .ensures) (c .before .before .before .before .before .before .before .before .before .rest .ensures) (sym (c .before .before .before .before .before .before .before .before .unread .ensures) ∙ not-false _ (c .before .before .before .before .before .before .before .if1 .left)) in
+    let u = unread-so (c .before .before .before .before .before .before .before .before .before .before .before .loop .t .node) _ _ (c .before .before .before .before .before .before .before .before .before .before .before .loop .inv .tidy .inside) (c .before .before .before .before .before .before .before .before .before .before .act .ensures) (c .before .before .before .before .before .before .before .before .before .rest .ensures) (sym (c .before .before .before .before .before .before .before .before .unread .ensures) ∙ not-false _ (c .before .before .before .before .before .before .before .if1 .left)) in
     drifts-next (c .before .before .before .before .before .before .before .before .before .before .before .loop .inv) (c .before .before .before .before .before .before .width .ensures) (c .before .before .before .before .before .skip .ensures) (c .before .before .before .next .given .1) (u .0) (u .1) (λ e. c .if2 .taken (c .before .act2 .ensures ∙ e))
 
 -- the group again
@@ -70,12 +70,12 @@ add-back c = omega (arith, c .before .before .before .before .before .before .be
 
 back-requires : tie.Need-back-requires Inv-loop μ-loop
 back-requires c κs =
-    let u = unread-so (c .before .before .before .before .before .before .before .before .before .before .before .before .args .told) (c .before .before .before .before .before .before .before .before .before .before .before .loop .t .node) _ _ (c .before .before .before .before .before .before .before .before .before .before .before .loop .inv .tidy .inside) (c .before .before .before .before .before .before .before .before .before .before .act .ensures) (c .before .before .before .before .before .before .before .before .before .rest .ensures) (sym (c .before .before .before .before .before .before .before .before .unread .ensures) ∙ not-false _ (c .before .before .before .before .before .before .before .if1 .left)) in
+    let u = unread-so (c .before .before .before .before .before .before .before .before .before .before .before .loop .t .node) _ _ (c .before .before .before .before .before .before .before .before .before .before .before .loop .inv .tidy .inside) (c .before .before .before .before .before .before .before .before .before .before .act .ensures) (c .before .before .before .before .before .before .before .before .before .rest .ensures) (sym (c .before .before .before .before .before .before .before .before .unread .ensures) ∙ not-false _ (c .before .before .before .before .before .before .before .if1 .left)) in
     (record { table = c .before .before .before .before .before .before .before .before .before .before .before .before .pre .0; inside = after-in (c .before .before .before .before .before .before .before .before .before .before .before .loop .inv) (u .0) }, sym (c .before .act2 .ensures) ∙ c .if2 .left)
 
 add-t-2 : tie.Need-add-t-2 Inv-loop μ-loop
 add-t-2 c =
-    let u = unread-so (c .before .before .before .before .before .before .before .before .before .before .before .before .before .before .before .before .args .told) (c .before .before .before .before .before .before .before .before .before .before .before .before .before .before .before .loop .t .node) _ _ (c .before .before .before .before .before .before .before .before .before .before .before .before .before .before .before .loop .inv .tidy .inside) (c .before .before .before .before .before .before .before .before .before .before .before .before .before .before .act .ensures) (c .before .before .before .before .before .before .before .before .before .before .before .before .before .rest .ensures) (sym (c .before .before .before .before .before .before .before .before .before .before .before .before .unread .ensures) ∙ not-false _ (c .before .before .before .before .before .before .before .before .before .before .before .if1 .left)) in
+    let u = unread-so (c .before .before .before .before .before .before .before .before .before .before .before .before .before .before .before .loop .t .node) _ _ (c .before .before .before .before .before .before .before .before .before .before .before .before .before .before .before .loop .inv .tidy .inside) (c .before .before .before .before .before .before .before .before .before .before .before .before .before .before .act .ensures) (c .before .before .before .before .before .before .before .before .before .before .before .before .before .rest .ensures) (sym (c .before .before .before .before .before .before .before .before .before .before .before .before .unread .ensures) ∙ not-false _ (c .before .before .before .before .before .before .before .before .before .before .before .if1 .left)) in
     let j = jump-in (c .before .before .before .before .before .before .before .before .before .before .before .before .before .before .before .loop .t .node + 1) (after-in (c .before .before .before .before .before .before .before .before .before .before .before .before .before .before .before .loop .inv) (u .0)) in
     omega (arith, c .before .before .before .back .ensures)
 
@@ -90,7 +90,7 @@ loop-less-2 c = nearer (c .before .before .before .before .before .before .befor
 
 loop-again-2 : tie.Need-loop-again-2 Inv-loop μ-loop
 loop-again-2 c =
-    let u = unread-so (c .before .before .before .before .before .before .before .before .before .before .before .before .before .before .before .before .before .args .told) (c .before .before .before .before .before .before .before .before .before .before .before .before .before .before .before .before .loop .t .node) _ _ (c .before .before .before .before .before .before .before .before .before .before .before .before .before .before .before .before .loop .inv .tidy .inside) (c .before .before .before .before .before .before .before .before .before .before .before .before .before .before .before .act .ensures) (c .before .before .before .before .before .before .before .before .before .before .before .before .before .before .rest .ensures) (sym (c .before .before .before .before .before .before .before .before .before .before .before .before .before .unread .ensures) ∙ not-false _ (c .before .before .before .before .before .before .before .before .before .before .before .before .if1 .left)) in
+    let u = unread-so (c .before .before .before .before .before .before .before .before .before .before .before .before .before .before .before .before .loop .t .node) _ _ (c .before .before .before .before .before .before .before .before .before .before .before .before .before .before .before .before .loop .inv .tidy .inside) (c .before .before .before .before .before .before .before .before .before .before .before .before .before .before .before .act .ensures) (c .before .before .before .before .before .before .before .before .before .before .before .before .before .before .rest .ensures) (sym (c .before .before .before .before .before .before .before .before .before .before .before .before .before .unread .ensures) ∙ not-false _ (c .before .before .before .before .before .before .before .before .before .before .before .before .if1 .left)) in
     rw (c .before .before .before .before .back .ensures)
     (drifts-again (c .before .before .before .before .before .before .before .before .before .before .before .before .before .before .before .before .loop .inv) (c .before .before .before .before .before .before .before .before .before .before .before .width .ensures) (c .before .before .before .before .before .before .before .before .before .before .skip .ensures) (c .before .before .before .before .before .before .before .before .next .given .1) (u .0) (u .1) (sym (c .before .before .before .before .before .before .act2 .ensures) ∙ c .before .before .before .before .before .if2 .left) (λ e. c .before .before .before .if3 .left (c .before .before .before .before .back .ensures ∙ e)) (c .before .if4 .left))
 
