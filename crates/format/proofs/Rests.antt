@@ -1,8 +1,8 @@
 -- What the rest of a row says: the code of its field, the ends of its range, and how far the row jumps. Tests that the checker computes over all
 -- rows. Assumes nothing.
-use mathlib.Core.Path.{_≡_, sym, ap}
-use mathlib.Core.Bool.{Bool, true, not, _&&_}
-use Prim.Native.Nat.{ℕ, suc, _+_, _-_, _/_, _%_, _≤_, _<_}
+use mathlib.Core.Path.{_≡_, sym}
+use mathlib.Core.Bool.{Bool, true, _&&_}
+use Prim.Native.Nat.{ℕ, suc, _+_, _-_, _%_, _≤_, _<_}
 use native.Mathlib.Decide.{decLe}
 use native.Mathlib.Nat.{lt-of-not-le}
 use native.Mathlib.Omega.{arith}
@@ -89,15 +89,6 @@ unfolding rows
 field-free k l e p =
     ltb→lt _ _
     (two-law (λ k r. ltb 1 (r .act)) (λ k r. ltb (restOf k r) 10) (λ k r. ltb (codeOf (r .field .sense)) 3) tt k l (lt-ltb 1 (act k) e) (lt-ltb (rest k) 10 p))
-
--- where it is neither below 3 nor from 32 to 47, a field that steers nothing is no scale and no distance
-pub no-measure : (k : ℕ) → k < 213 → act k ≡ 2 → 2 < rest k → (rest k / 16 ≡ 2 → ⊥) → (2 < codeOf (fieldAt k .sense)) × (codeOf (fieldAt k .sense) < 11)
-unfolding rows
-no-measure k l a e p =
-    let t = two-law (λ k r. eqb (r .act) 2 && ltb 2 (restOf k r)) (λ k r. not (eqb (restOf k r / 16) 2)) (λ k r. ltb 2 (codeOf (r .field .sense)) && ltb (codeOf (r .field .sense)) 11) tt k l (rw (eq-eqb (act k) 2 a, lt-ltb 2 (rest k) e)) (ap not (ne-eqb (rest k / 16) 2 p)) in (
-      ltb→lt _ _ (and-left (ltb 2 (codeOf (fieldAt k .sense))) (ltb (codeOf (fieldAt k .sense)) 11) t),
-      ltb→lt _ _ (and-right (ltb 2 (codeOf (fieldAt k .sense))) (ltb (codeOf (fieldAt k .sense)) 11) t),
-    )
 
 -- the row of a field with a range from a on, whose high end is the lowest four bits
 pub record Ranges (a k : ℕ) : Type 0 where

@@ -38,14 +38,14 @@ enum-told : tie.Need-enum-told
 enum-told c = search needs
 
 returns-4 : tie.Need-returns-4
-returns-4 c = 
+returns-4 c =
     let a = c .before .before .before .before .before .before .before .before .before .args in
     let k = c .before .before .before .before .lower in
     let f = taken (now (a .s)) (8 * length (now (a .s))) (k .result) (a .at) _ _ (sym (c .before .before .before .take .ensures) ∙ c .before .v .given .1) in
     f .value ∙ all-there (now (a .s)) (a .wide) (a .at) (omega arith) (omega arith) (k .result) (k .ensures)
 
 returns-5 : tie.Need-returns-5
-returns-5 c = 
+returns-5 c =
     let a = c .before .before .before .before .before .before .before .before .args in
     let k = c .before .before .before .lower in
     let e = sym (take-whole (now (a .s)) (8 * length (now (a .s))) (k .result) (a .at) (omega arith) (omega arith) (omega arith))

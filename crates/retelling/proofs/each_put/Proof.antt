@@ -34,10 +34,9 @@ loop-less : tie.Need-loop-less Inv-loop μ-loop
 loop-less c = omega arith
 
 loop-again : tie.Need-loop-again Inv-loop μ-loop
-loop-again c = 
+loop-again c =
     let a = c .before .before .before .before .before .before .before .before .before .args in
-    let l = c .before .before .before .before .before .before .loop in
-    (
+    let l = c .before .before .before .before .before .before .loop in (
       omega (arith, c .group-end .ensures .1, l .inv .0),
       rw (c .group-end .ensures .0, c .before .before .before .group-put .ensures) (l .inv .1 ∙ put-on (putOf (a .g) (now (a .s)) (a .q)) (endOf (a .g) (now (a .s))) (l .left) (l .at) (l .out) (omega arith)),
       c .before .before .out .given ∙ l .inv .2,
@@ -47,7 +46,7 @@ same-length : tie.Need-same-length Inv-loop μ-loop
 same-length c = c .before .loop .inv .2
 
 returns : tie.Need-returns Inv-loop μ-loop
-returns c = 
+returns c =
     let a = c .before .before .before .before .args in
     let l = c .before .loop in
     sym (l .inv .1 ∙ put-end (putOf (a .g) (now (a .s)) (a .q)) (endOf (a .g) (now (a .s))) (l .left) (l .at) (l .out) (omega arith))

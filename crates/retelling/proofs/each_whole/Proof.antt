@@ -24,7 +24,7 @@ group-whole-requires : tie.Need-group-whole-requires Inv-loop μ-loop
 group-whole-requires c κs = (omega (arith, c .before .before .before .pre .0), omega (arith, c .before .before .before .pre .1), omega (arith, c .before .loop .inv .0))
 
 returns : tie.Need-returns Inv-loop μ-loop
-returns c = 
+returns c =
     let a = c .before .before .before .before .before .args in
     let l = c .before .before .before .loop in
     sym (l .inv .1 ∙ each-broken (wholeOf (a .g) (now (a .s)) (a .q)) (endOf (a .g) (now (a .s))) (l .left) (l .at) (omega arith) (sym (c .before .group-whole .ensures) ∙ not-true _ (c .if1 .taken)))
@@ -39,17 +39,16 @@ loop-less : tie.Need-loop-less Inv-loop μ-loop
 loop-less c = omega arith
 
 loop-again : tie.Need-loop-again Inv-loop μ-loop
-loop-again c = 
+loop-again c =
     let a = c .before .before .before .before .before .before .args in
-    let l = c .before .before .before .before .loop in
-    (
+    let l = c .before .before .before .before .loop in (
       omega (arith, c .group-end .ensures .1, l .inv .0),
       rw (c .group-end .ensures .0)
-      (l .inv .1 ∙ each-on (wholeOf (a .g) (now (a .s)) (a .q)) (endOf (a .g) (now (a .s))) (l .left) (l .at) (omega arith) (sym (c .before .before .group-whole .ensures) ∙ not-false _ (c .before .if1 .left))),
+          (l .inv .1 ∙ each-on (wholeOf (a .g) (now (a .s)) (a .q)) (endOf (a .g) (now (a .s))) (l .left) (l .at) (omega arith) (sym (c .before .before .group-whole .ensures) ∙ not-false _ (c .before .if1 .left))),
     )
 
 returns-2 : tie.Need-returns-2 Inv-loop μ-loop
-returns-2 c = 
+returns-2 c =
     let a = c .before .before .before .args in
     let l = c .before .loop in
     sym (l .inv .1 ∙ each-end (wholeOf (a .g) (now (a .s)) (a .q)) (endOf (a .g) (now (a .s))) (l .left) (l .at) (omega arith))

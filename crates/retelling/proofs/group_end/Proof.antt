@@ -89,7 +89,7 @@ returns-2 : tie.Need-returns-2
 returns-2 c = (rw (c .enum-told2 .given .1), omega arith)
 
 returns-3 : tie.Need-returns-3
-returns-3 c = 
+returns-3 c =
     let a = c .before .before .before .before .args in
     let e = c .number .ensures ∙ within (now (a .s)) 5 (a .x + 23) (omega arith) (omega arith) in
     (rw (c .before .enum-told3 .given .1, e), omega (arith, e, number-small (now (a .s)) 5 (a .x + 23)))

@@ -83,7 +83,7 @@ same-length-5 : tie.Need-same-length-5
 same-length-5 c = search needs
 
 returns-5 : tie.Need-returns-5
-returns-5 c = 
+returns-5 c =
     let g = c .before .before .before .before .enum-told5 .given .1 in
     c .before .before .put2 .ensures ∙ rw (c .before .before .before .before .before .before .before .before .put .ensures, c .before .before .before .before .before .before .before .before .before .before .first .ensures .0, g)
 
@@ -91,7 +91,7 @@ same-length-6 : tie.Need-same-length-6
 same-length-6 c = search needs
 
 returns-6 : tie.Need-returns-6
-returns-6 c = 
+returns-6 c =
     let g = c .before .before .before .before .enum-told6 .given .1 in
     c .before .before .put3 .ensures ∙ rw (c .before .before .before .before .before .before .before .before .put .ensures, c .before .before .before .before .before .before .before .before .before .before .first .ensures .0, g)
 
@@ -105,7 +105,7 @@ same-length-8 : tie.Need-same-length-8
 same-length-8 c = search needs
 
 returns-8 : tie.Need-returns-8
-returns-8 c = 
+returns-8 c =
     let g = c .before .before .before .before .enum-told8 .given .1 in
     c .before .before .put4 .ensures ∙ rw (c .before .before .before .before .before .before .before .before .put .ensures, c .before .before .before .before .before .before .before .before .before .before .first .ensures .0, g)
 

@@ -73,13 +73,13 @@ returns-5 : tie.Need-returns-5
 returns-5 c = rw (c .enum-told4 .given .1) (sym (rw (c .before .before .before .before .first .ensures .0, c .enum-told4 .given .1) at (sym (c .before .before .before .whole .ensures) ∙ not-false _ (c .before .before .if1 .left))))
 
 returns-6 : tie.Need-returns-6
-returns-6 c = 
+returns-6 c =
     let g = c .before .enum-told5 .given .1 in
     let h = rw (c .before .before .before .before .before .first .ensures .0, g) at (sym (c .before .before .before .before .whole .ensures) ∙ not-false _ (c .before .before .before .if1 .left)) in
     c .whole2 .ensures ∙ rw (c .before .before .before .before .before .first .ensures .0, g, h)
 
 returns-7 : tie.Need-returns-7
-returns-7 c = 
+returns-7 c =
     let g = c .before .enum-told6 .given .1 in
     let h = rw (c .before .before .before .before .before .first .ensures .0, g) at (sym (c .before .before .before .before .whole .ensures) ∙ not-false _ (c .before .before .before .if1 .left)) in
     c .whole3 .ensures ∙ rw (c .before .before .before .before .before .first .ensures .0, g, h)
@@ -88,7 +88,7 @@ returns-8 : tie.Need-returns-8
 returns-8 c = rw (c .enum-told7 .given .1) (sym (rw (c .before .before .before .before .first .ensures .0, c .enum-told7 .given .1) at (sym (c .before .before .before .whole .ensures) ∙ not-false _ (c .before .before .if1 .left))))
 
 returns-9 : tie.Need-returns-9
-returns-9 c = 
+returns-9 c =
     let g = c .before .enum-told8 .given .1 in
     let h = rw (c .before .before .before .before .before .first .ensures .0, g) at (sym (c .before .before .before .before .whole .ensures) ∙ not-false _ (c .before .before .before .if1 .left)) in
     c .whole4 .ensures ∙ rw (c .before .before .before .before .before .first .ensures .0, g, h)

@@ -26,7 +26,7 @@ whole-requires : tie.Need-whole-requires
 whole-requires c κs = (omega (arith, c .before .before .before .before .pre .0), omega (arith, (c .before .number .ensures ∙ within (now (c .before .before .before .before .args .s)) 2 (c .before .before .before .before .args .k) (omega arith) (omega arith)), number-small (now (c .before .before .before .before .args .s)) 2 (c .before .before .before .before .args .k)), omega arith)
 
 returns-2 : tie.Need-returns-2
-returns-2 c = 
+returns-2 c =
     let a = c .before .before .before .before .before .before .args in
     stays (now (a .s)) (a .k) (λ (q : ℕ). wholeIn (now (a .s)) q 15 (a .d) && listWhole (now (a .s)) (wholeOf (a .g) (now (a .s)) q) (endOf (a .g) (now (a .s))) (a .x)) (λ (q : ℕ) (o : List ℕ). listPut (now (a .s)) (putOf (a .g) (now (a .s)) q) (endOf (a .g) (now (a .s))) (a .x) (inMetres (now (a .s)) q 15 (a .d) o)) (now (a .out)) (c .before .before .before .number .result) (c .before .before .before .number .ensures ∙ within (now (c .before .before .before .before .before .before .args .s)) 2 (a .k) (omega arith) (omega arith)) (c .before .before .if1 .left)
     (first-false _ _ (sym (c .before .whole .ensures) ∙ not-true _ (c .if2 .taken)))
@@ -35,7 +35,7 @@ list-whole-requires : tie.Need-list-whole-requires
 list-whole-requires c κs = (omega (arith, c .before .before .before .before .before .before .pre .0), omega (arith, (c .before .before .before .number .ensures ∙ within (now (c .before .before .before .before .before .before .args .s)) 2 (c .before .before .before .before .before .before .args .k) (omega arith) (omega arith)), number-small (now (c .before .before .before .before .before .before .args .s)) 2 (c .before .before .before .before .before .before .args .k)), c .before .before .before .before .before .before .pre .1)
 
 returns-3 : tie.Need-returns-3
-returns-3 c = 
+returns-3 c =
     let a = c .before .before .before .before .before .before .before .before .args in
     stays (now (a .s)) (a .k) (λ (q : ℕ). wholeIn (now (a .s)) q 15 (a .d) && listWhole (now (a .s)) (wholeOf (a .g) (now (a .s)) q) (endOf (a .g) (now (a .s))) (a .x)) (λ (q : ℕ) (o : List ℕ). listPut (now (a .s)) (putOf (a .g) (now (a .s)) q) (endOf (a .g) (now (a .s))) (a .x) (inMetres (now (a .s)) q 15 (a .d) o)) (now (a .out)) (c .before .before .before .before .before .number .result) (c .before .before .before .before .before .number .ensures ∙ within (now (c .before .before .before .before .before .before .before .before .args .s)) 2 (a .k) (omega arith) (omega arith)) (c .before .before .before .before .if1 .left)
     (second-false _ _ (sym (c .before .before .before .whole .ensures) ∙ not-false _ (c .before .before .if2 .left))
@@ -54,7 +54,7 @@ same-length : tie.Need-same-length
 same-length c = search needs
 
 returns-4 : tie.Need-returns-4
-returns-4 c = 
+returns-4 c =
     let a = c .before .before .before .before .before .before .before .before .before .before .before .before .before .before .before .before .before .before .before .before .args in
     c .before .before .said .ensures
     ∙ rw (c .before .before .before .before .before .before .list-put .ensures, c .before .before .before .before .before .before .before .before .before .before .put .ensures)

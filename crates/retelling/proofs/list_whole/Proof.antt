@@ -30,7 +30,7 @@ each-whole-requires : tie.Need-each-whole-requires
 each-whole-requires c κs = (omega (arith, c .before .before .before .before .before .pre .0), omega (arith, c .before .before .before .before .before .pre .1), omega (arith, (c .number .ensures ∙ within (now (c .before .before .before .before .before .args .s)) 5 (c .before .group-end .result) (omega arith) (omega arith)), number-small (now (c .before .before .before .before .before .args .s)) 5 (c .before .group-end .result), c .before .group-end .ensures .1))
 
 returns-2 : tie.Need-returns-2
-returns-2 c = 
+returns-2 c =
     c .each-whole .ensures
     ∙ rw ((c .before .number .ensures ∙ within (now (c .before .before .before .before .before .before .args .s)) 5 (c .before .before .group-end .result) (omega arith) (omega arith)), c .before .before .group-end .ensures .0, sym (c .before .before .before .before .group-whole .ensures) ∙ not-false _ (c .before .before .before .if1 .left))
 

@@ -47,14 +47,14 @@ enum-told-2 : tie.Need-enum-told-2
 enum-told-2 c = search needs
 
 returns-2 : tie.Need-returns-2
-returns-2 c = 
+returns-2 c =
     let a = c .before .before .before .before .before .before .before .before .before .before .before .args in
     c .number .ensures
     ∙ metres-whole (a .q) (a .v) 0 (omega arith) _ (sym (c .before .before .before .before .before .before .before .before .before .before .of .ensures) ∙ c .before .before .before .before .before .before .before .before .k .given .1) _
     (sym (rw (c .before .before .before .before .before .decimetres .ensures, c .before .before .before .before .before .before .new .ensures) at (c .before .before .before .before .steps .ensures)) ∙ c .before .before .m .given .1)
 
 returns-3 : tie.Need-returns-3
-returns-3 c = 
+returns-3 c =
     let a = c .before .before .before .before .before .before .before .before .before .args in
     metres-rest (a .q) (a .v) 0 (omega arith) _ (sym (c .before .before .before .before .before .before .before .before .of .ensures) ∙ c .before .before .before .before .before .before .k .given .1)
     (sym (rw (c .before .before .before .decimetres .ensures, c .before .before .before .before .new .ensures) at (c .before .before .steps .ensures)) ∙ c .enum-told2 .given .1)

@@ -14,7 +14,7 @@ number-requires : tie.Need-number-requires
 number-requires c κs = search needs
 
 metres-requires : tie.Need-metres-requires
-metres-requires c κs = 
+metres-requires c κs =
     let a = c .before .before .before .before .args in
     let e = (c .before .number .ensures ∙ within (now (a .s)) (a .wide) (a .at) (omega arith) (omega arith)) in
     (omega (arith, e, twenty (now (a .s)) (a .wide) (a .at) (omega arith)), omega arith)
@@ -26,7 +26,7 @@ same-length : tie.Need-same-length
 same-length c = search needs
 
 returns : tie.Need-returns
-returns c = 
+returns c =
     let a = c .before .before .before .before .before .before .before .before .args in
     let e = (c .before .before .before .before .before .number .ensures ∙ within (now (a .s)) (a .wide) (a .at) (omega arith) (omega arith)) in
     c .before .before .put .ensures .contents ∙ rw (c .before .before .before .metres .ensures, e)

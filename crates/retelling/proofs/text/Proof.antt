@@ -30,7 +30,7 @@ whole-requires : tie.Need-whole-requires
 whole-requires c κs = (omega (arith, c .before .before .before .before .pre .0), omega (arith, (c .before .number .ensures ∙ within (now (c .before .before .before .before .args .s)) 2 (c .before .before .before .before .args .x + 23) (omega arith) (omega arith)), number-small (now (c .before .before .before .before .args .s)) 2 (c .before .before .before .before .args .x + 23)), omega arith)
 
 returns-2 : tie.Need-returns-2
-returns-2 c = 
+returns-2 c =
     let a = c .before .before .before .before .before .before .args in
     stays (now (a .s)) (a .x + 23) (wordsWhole (now (a .s)) (a .x)) (textPut (now (a .s)) (a .x)) (now (a .out)) (c .before .before .before .number .result) (c .before .before .before .number .ensures ∙ within (now (c .before .before .before .before .before .before .args .s)) 2 (a .x + 23) (omega arith) (omega arith)) (c .before .before .if1 .left)
     (first-false _ _ (sym (c .before .whole .ensures) ∙ not-true _ (c .if2 .taken)))
@@ -48,7 +48,7 @@ length-whole-requires : tie.Need-length-whole-requires
 length-whole-requires c κs = (omega (arith, c .before .before .before .before .before .before .before .pre .0), omega (arith, (c .before .before .before .before .number .ensures ∙ within (now (c .before .before .before .before .before .before .before .args .s)) 2 (c .before .before .before .before .before .before .before .args .x + 23) (omega arith) (omega arith)), number-small (now (c .before .before .before .before .before .before .before .args .s)) 2 (c .before .before .before .before .before .before .before .args .x + 23)))
 
 returns-3 : tie.Need-returns-3
-returns-3 c = 
+returns-3 c =
     let a = c .before .before .before .before .before .before .before .before .before .args in
     stays (now (a .s)) (a .x + 23) (wordsWhole (now (a .s)) (a .x)) (textPut (now (a .s)) (a .x)) (now (a .out)) (c .before .before .before .before .before .before .number .result) (c .before .before .before .before .before .before .number .ensures ∙ within (now (c .before .before .before .before .before .before .before .before .before .args .s)) 2 (a .x + 23) (omega arith) (omega arith)) (c .before .before .before .before .before .if1 .left)
     (second-false _ _ (sym (c .before .before .before .before .whole .ensures) ∙ not-false _ (c .before .before .before .if2 .left))
@@ -73,7 +73,7 @@ same-length : tie.Need-same-length
 same-length c = search needs
 
 returns-4 : tie.Need-returns-4
-returns-4 c = 
+returns-4 c =
     let a = c .before .before .before .before .before .before .before .before .before .before .before .before .before .before .before .before .before .before .before .before .before .args in
     c .before .before .said .ensures
     ∙ rw (c .before .before .before .before .before .before .length-put .ensures, c .before .before .before .before .before .before .before .before .before .before .put .ensures, (c .before .before .before .before .before .before .before .before .before .before .before .before .before .before .either .ensures .0))

@@ -38,7 +38,7 @@ fits-requires : tie.Need-fits-requires
 fits-requires c κs = search needs
 
 returns : tie.Need-returns
-returns c = 
+returns c =
     let a = c .before .before .before .before .before .before .before .before .args in
     let e = (c .before .before .before .before .before .before .number .ensures ∙ within (now (c .before .before .before .before .before .before .before .before .args .s)) (a .wide) (a .at) (omega arith) (omega arith)) in
     let t = twenty (now (a .s)) (a .wide) (a .at) (omega arith) in
@@ -46,7 +46,7 @@ returns c =
     ∙ rw (c .before .new .ensures, e) (whole-by (a .q) (numberIn (now (a .s)) (a .wide) (a .at)) (a .wide) t _ (sym (c .before .before .before .before .before .of .ensures) ∙ c .before .before .before .k .given .1))
 
 returns-2 : tie.Need-returns-2
-returns-2 c = 
+returns-2 c =
     let a = c .before .before .before .before .before .before .args in
     let e = (c .before .before .before .before .number .ensures ∙ within (now (c .before .before .before .before .before .before .args .s)) (a .wide) (a .at) (omega arith) (omega arith)) in
     let t = twenty (now (a .s)) (a .wide) (a .at) (omega arith) in
