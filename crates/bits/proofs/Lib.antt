@@ -7,3 +7,4 @@ pub mod Once
 pub mod Loops
 pub mod Windows
 pub mod Sight
+pub mod Looked

@@ -1,10 +1,10 @@
 -- What lies ahead of a position, as one number of 64 bits, and the fields in it. Definitions alone.
 use mathlib.Core.List.{List}
-use mathlib.Core.Bool.{Bool, _&&_}
+use mathlib.Core.Bool.{Bool, cond, _&&_}
 use Prim.Native.Nat.{ℕ, _+_, _-_, _*_, _/_, _%_, _^_, min}
-use lib.ListN.{length}
+use lib.ListN.{length, drop}
 use lib.Dec.{leb}
-use Rattle.bits.specs.Bits.{valueOf}
+use Rattle.bits.specs.Bits.{valueOf, bitsOf, filled}
 use Rattle.bits.specs.Take.{inside, fieldBits, takenIf}
 use Rattle.bits.specs.declared.Taken.{Taken}
 use Rattle.bits.specs.declared.Taken.the-variants.{Field, Short}
@@ -28,3 +28,11 @@ inSight s n bits at = leb 1 bits && leb bits 57 && leb 8 (length s) && inside s 
 -- the window of a position with the position past so many bits, where they lie in it; else Short
 unfoldable pub aheadAt : List ℕ → ℕ → ℕ → ℕ → Taken
 aheadAt s n bits at = takenIf (inSight s n bits at) (Field (windowAt s at) (record { at = at + bits }))
+
+-- the window of a position, wherever it is; nothing of fewer than eight bytes
+abbrev pub seenAt : List ℕ → ℕ → ℕ
+seenAt s at = cond (leb 8 (length s)) (windowAt s at) 0
+
+-- the number in the b bits from a position on, with 0 for each that the bytes do not have
+abbrev pub numberAt : List ℕ → ℕ → ℕ → ℕ
+numberAt s b at = valueOf (filled b (drop at (bitsOf s)))

@@ -23,6 +23,10 @@ bytesIf false new old = old
 unfoldable pub putAt : List ℕ → ℕ → ℕ → ℕ → List ℕ
 putAt s at width value = bytesIf (writable s at width value) (bytesOf (over (bitsOf s) at width value)) s
 
+-- the same of a short field in four bytes or more; else they stay as they were
+abbrev pub laidAt : List ℕ → ℕ → ℕ → ℕ → List ℕ
+laidAt s at width value = bytesIf (leb width 25 && leb 4 (length s)) (putAt s at width value) s
+
 -- the promise of `put`: what it answers, and what the lent bytes then hold
 pub record Put (before : List ℕ) (at width value : ℕ) (wrote : Bool) (after : List ℕ) : Type 0 where
   pub answer : wrote ≡ writable before at width value

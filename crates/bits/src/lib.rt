@@ -7,7 +7,7 @@ ghost use mathlib.Core.Path.{_≡_};
 ghost use Prim.Native.Nat.{_^_, _+_, _*_, _≤_, _<_};
 ghost use lib.ListN.{length};
 ghost use Rattle.bits.specs.Bits.{valueOf};
-ghost use Rattle.bits.specs.Ahead.{inSight, aheadAt};
+ghost use Rattle.bits.specs.Ahead.{inSight, aheadAt, seenAt};
 ghost use Rattle.bits.specs.Take.{inside, fieldBits, takeAt, skipAt};
 pub use word64::behind;
 pub use word64::bytes_for;
@@ -82,6 +82,21 @@ impl Cursor {
         let w = eight(s, k) << (at - 8 * k);
         Taken::Field(w, Cursor { at: at + bits })
     }
+
+    // What lies here: the same number, with 0 for each bit that s does not have. 0 where s has fewer than eight bytes.
+    pub fn look(self, s: &[u8]) -> u64
+        ensures { λ r. ⌜ r ≡ seenAt (now (s .entry)) (self .at) ⌝ }
+    {
+        if s.len() < 8 {
+            return 0;
+        }
+        let k = lower(self.at / 8, s.len() - 8);
+        let o = self.at - 8 * k;
+        if 63 < o {
+            return 0;
+        }
+        eight(s, k) << o
+    }
 }
 
 // Whether so many bits at the bit at of the first n bits of s lie in one window of eight bytes.
@@ -117,10 +132,10 @@ fn inside(s: &[u8], n: usize, at: usize, width: usize) -> bool
     if 64 < width {
         return false;
     }
-    if n < width {
+    if n < at {
         return false;
     }
-    if n - width < at {
+    if n - at < width {
         return false;
     }
     bytes_for(n) <= s.len()

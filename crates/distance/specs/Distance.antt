@@ -4,7 +4,7 @@ use mathlib.Core.Bool.{Bool, true, false, _&&_}
 use mathlib.Core.List.{[], _∷_}
 use Prim.Native.Nat.{ℕ, zero, suc, _/_, _%_, _^_}
 use lib.Dec.{eqb, ltb}
-use Rattle.distance.specs.Steps.{step, decimetres}
+use Rattle.distance.specs.Steps.{step, decimetres, steps}
 use Rattle.distance.specs.declared.Scale.{Scale}
 use Rattle.distance.specs.declared.Scale.the-variants.{Tenths, Metres, Tens}
 use Rattle.distance.specs.declared.Scaled.{Scaled}
@@ -38,10 +38,9 @@ wholeSteps k d = wholeIf (eqb (d % k) 0 && ltb (d / k) (2 ^ 32)) (d / k)
 abbrev pub inSteps : Scale → ℕ → Told
 inSteps q d = wholeSteps (step (numberOf q)) d
 
--- whether what is told is whole steps, of which 32 bits hold the number, that fit w bits
-abbrev pub fitting : ℕ → Told → Bool
-fitting w (told.Whole n) = ltb (n .0) (2 ^ w)
-fitting w told.Not = false
+-- whether d decimetres are "a whole number of metres that fits" a field of w bits
+abbrev pub wholeMetres : ℕ → ℕ → Bool
+wholeMetres w d = eqb (d % step 1) 0 && ltb (steps 1 d) (2 ^ w)
 
 -- 70 steps of 10 m are 7,000 dm, and 700 steps of 1 m; 1,015 dm are no whole number of metres
 examples : inDecimetres Tens 70 ∷ inDecimetres Metres 700 ∷ [] ≡ 7000 ∷ 7000 ∷ []
@@ -52,5 +51,5 @@ back : inSteps Metres 7000 ∷ inSteps Metres 1015 ∷ inSteps Tenths 1015 ∷ [
 back = refl
 
 -- 90,000 steps of 10 m are 900,000 m, which 20 bits hold, and 110,000 are too many
-fit : fitting 20 (inSteps Metres (inDecimetres Tens 90000)) ∷ fitting 20 (inSteps Metres (inDecimetres Tens 110000)) ∷ [] ≡ true ∷ false ∷ []
+fit : wholeMetres 20 (inDecimetres Tens 90000) ∷ wholeMetres 20 (inDecimetres Tens 110000) ∷ [] ≡ true ∷ false ∷ []
 fit = refl

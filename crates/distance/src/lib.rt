@@ -2,8 +2,8 @@
 // nowhere else; they are converted by functions that know the packet's Q_SCALE.
 ghost use mathlib.Core.Path.{_≡_};
 ghost use Prim.Native.Nat.{_<_};
-ghost use Rattle.distance.specs.Distance.{scaledBy, inDecimetres, inSteps, wholeSteps, fitting};
-ghost use Rattle.distance.specs.declared.Scale.the-variants.{Metres};
+ghost use Rattle.distance.specs.Steps.{step, steps};
+ghost use Rattle.distance.specs.Distance.{numberOf, scaledBy, inDecimetres, inSteps, wholeSteps, wholeMetres};
 
 // The scale of a packet: steps of 10 cm, of 1 m or of 10 m.
 pub enum Scale {
@@ -42,6 +42,17 @@ impl Scale {
             _ => Scaled::Not,
         }
     }
+
+    // How many decimetres a step of this scale is.
+    pub fn step(self) -> u64
+        ensures { λ r. ⌜ r ≡ step (numberOf self) ⌝ }
+    {
+        match self {
+            Scale::Tenths => 1,
+            Scale::Metres => 10,
+            Scale::Tens => 100,
+        }
+    }
 }
 
 impl Steps {
@@ -61,27 +72,31 @@ impl Steps {
     pub fn decimetres(self, q: Scale) -> Decimetres
         ensures { λ r. ⌜ r .0 ≡ inDecimetres q (self .0) ⌝ }
     {
-        let n = self.0 as u64;
-        match q {
-            Scale::Tenths => Decimetres(n),
-            Scale::Metres => Decimetres(10 * n),
-            Scale::Tens => Decimetres(100 * n),
-        }
+        Decimetres(q.step() * self.0 as u64)
     }
 
-    // Whether these steps of a packet's scale are a whole number of metres that fits w bits, and 32.
+    // Whether these steps of a packet's scale are a whole number of metres that fits w bits.
     pub fn whole_metres(self, q: Scale, w: usize) -> bool
-        ensures { λ r. ⌜ r ≡ fitting w (inSteps Metres (inDecimetres q (self .0))) ⌝ }
+        ensures { λ r. ⌜ r ≡ wholeMetres w (inDecimetres q (self .0)) ⌝ }
     {
         let d = self.decimetres(q);
-        match d.steps(Scale::Metres) {
-            Told::Whole(m) => bits::fits(m.number() as u64, w),
-            Told::Not => false,
+        let m = d.metres();
+        if d.0 != 10 * m {
+            return false;
         }
+        bits::fits(m, w)
     }
 }
 
 impl Decimetres {
+    // How many whole metres these decimetres are: the rest of a metre is left out.
+    pub fn metres(self) -> u64
+        ensures { λ r. ⌜ r ≡ steps 1 (self .0) ⌝ }
+    {
+        let d = self.0;
+        d / 10
+    }
+
     // How many steps of a packet's scale these decimetres are. Not, where that is no whole number or is too large.
     pub fn steps(self, q: Scale) -> Told
         ensures { λ r. ⌜ r ≡ inSteps q (self .0) ⌝ }

@@ -4,7 +4,7 @@ ghost use mathlib.Core.Path.{_≡_};
 ghost use Prim.Native.Nat.{_/_, _%_, _^_, _+_, _*_, _≤_, _<_};
 ghost use lib.ListN.{length};
 ghost use Rattle.bits.specs.Bits.{bitsOf};
-ghost use Rattle.bits.specs.Put.{over, Put};
+ghost use Rattle.bits.specs.Put.{over, laidAt, Put};
 use word64::fits;
 use word64::low_bits;
 use word64::lower;
@@ -31,6 +31,29 @@ pub fn put(out: &mut [u8], at: usize, width: usize, value: u64) -> bool
         put_window(out, at, width, value);
     }
     true
+}
+
+// The same, with no answer and of short fields alone: of more than 25 bits, and in fewer than four bytes, nothing is written.
+pub fn lay(out: &mut [u8], at: usize, width: usize, value: u64)
+    ensures { λ _. ⌜ now (out .exit) ≡ laidAt (now (out .entry)) at width value ⌝ }
+{
+    if 25 < width {
+        return;
+    }
+    if out.len() < 4 {
+        return;
+    }
+    let k = lower(at / 8, out.len() - 4);
+    let o = at - 8 * k;
+    if 32 - width < o {
+        return;
+    }
+    if !fits(value, width) {
+        return;
+    }
+    let low = 32 - width - o;
+    let w = window(out[k], out[k + 1], out[k + 2], out[k + 3]);
+    store(out, k, exchange(w, value, width, low));
 }
 
 // Writes value as the field of width bits at the bit at, its part in each byte by itself.
@@ -88,4 +111,13 @@ fn splice(w: u64, x: u64, t: usize, low: usize) -> u64
 {
     let top = w >> (t + low) << t | x;
     top << low | w & ((1u64 << low) - 1)
+}
+
+// The same of a number of 32 bits, by a difference and a sum.
+fn exchange(w: u64, x: u64, t: usize, low: usize) -> u64
+    requires { ⌜ (w < 2 ^ 32) × (t + low ≤ 32) × (x < 2 ^ t) ⌝ }
+    ensures { λ r. ⌜ r ≡ (w / 2 ^ (t + low) * 2 ^ t + x) * 2 ^ low + w % 2 ^ low ⌝ }
+{
+    let old = low_bits(w >> low, t);
+    w - (old << low) + (x << low)
 }

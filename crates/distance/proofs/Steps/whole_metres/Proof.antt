@@ -1,56 +1,36 @@
 -- `distance::Steps::whole_metres` meets its contract: by way of decimetres, and then the test of the width. Assumes nothing.
-use mathlib.Core.Path.{_∙_, sym, ap}
-use Prim.Native.Nat.{_^_}
+use mathlib.Core.Path.{_≡_, sym, _∙_}
+use native.Mathlib.Omega.{arith}
 use borrow.Author.Needs.{needs}
-use lib.Dec.{ltb}
-use Rattle.distance.specs.Distance.{inSteps, fitting}
-use Rattle.distance.specs.declared.Scale.the-variants.{Metres}
+use Rattle.distance.specs.Distance.{inDecimetres}
+use Rattle.distance.proofs.Scales.{not-whole, are-whole}
 use Rattle.distance.proofs.Steps.whole_metres.Statement.{statement}
 use Rattle.distance.proofs.Steps.whole_metres.Tie as tie
 
 decimetres-requires : tie.Need-decimetres-requires
 decimetres-requires c κs = search needs
 
-steps-requires : tie.Need-steps-requires
-steps-requires c κs = search needs
+metres-requires : tie.Need-metres-requires
+metres-requires c κs = search needs
 
-enum-known-m : tie.Need-enum-known-m
-enum-known-m c = search needs
+mul-if1 : tie.Need-mul-if1
+mul-if1 c = search needs
 
-number-requires : tie.Need-number-requires
-number-requires c κs = search needs
-
-cast-fits : tie.Need-cast-fits
-cast-fits c = search needs
+returns : tie.Need-returns
+returns c =
+    let a = c .before .before .before .before .args in
+    not-whole (a .w) (inDecimetres (a .q) (a .self .0)) (rw (c .before .before .metres .ensures, c .before .before .before .decimetres .ensures) at (c .if1 .taken))
 
 fits-requires : tie.Need-fits-requires
 fits-requires c κs = search needs
 
-enum-told : tie.Need-enum-told
-enum-told c = search needs
-
-returns : tie.Need-returns
-returns c =
-    let b = c .before .before .before .before .before in
-    let w = b .before .before .args .w in
-    c .fits2 .ensures ∙ ap (λ n. ltb n (2 ^ w)) (c .before .number .ensures)
-    ∙ ap (fitting w) (sym (c .before .before .before .m .given .1) ∙ b .steps .ensures ∙ ap (inSteps Metres) (b .before .decimetres .ensures))
-
 returns-2 : tie.Need-returns-2
 returns-2 c =
-    let b = c .before .before in
-    ap (fitting (b .before .before .args .w)) (sym (c .enum-told .given .1) ∙ b .steps .ensures ∙ ap (inSteps Metres) (b .before .decimetres .ensures))
+    let a = c .before .before .before .before .before .args in
+    rw (c .before .before .before .metres .ensures, c .before .before .before .before .decimetres .ensures) at (c .fits2 .ensures)
+    ∙ are-whole (a .w) (inDecimetres (a .q) (a .self .0)) (rw (c .before .before .before .metres .ensures, c .before .before .before .before .decimetres .ensures) at (c .before .if1 .left))
 
 pub whole-metres-spec : {M : Type 1} → statement M
 whole-metres-spec =
     tie.close
-    (tie.spec
-    decimetres-requires
-    steps-requires
-    enum-known-m
-    number-requires
-    cast-fits
-    fits-requires
-    enum-told
-    returns
-    returns-2)
+    (tie.spec decimetres-requires metres-requires mul-if1 returns fits-requires returns-2)
