@@ -2,13 +2,14 @@
 use mathlib.Core.Bool.{Bool, true, false, cond, _&&_}
 use mathlib.Core.List.{List, [], _∷_, _++_, append-assoc}
 use mathlib.Core.Path.{_≡_, refl, sym, ap, _∙_}
-use Prim.Native.Nat.{ℕ, _+_, _%_, _^_, _<_}
+use Prim.Native.Nat.{ℕ, _+_, _%_, _^_, _≤_, _<_}
 use native.Mathlib.Omega.{arith}
 use lib.Dec.{T, eqb, ltb}
-use lib.ListN.{take, drop, take-append-drop}
+use lib.ListN.{length, take, drop, length-append, take-append-drop}
 use lib.Seq.{take-at, drop-at, drop-drop}
-use Rattle.bits.specs.Bits.{digits, bitsOf, valueOf}
-use Rattle.bits.specs.Take.{fieldBits}
+use Rattle.bits.specs.Bits.{digits, bitsOf, valueOf, filled}
+use Rattle.bits.specs.Ahead.{numberAt}
+use Rattle.bits.proofs.Bytes.{filled-take}
 use Rattle.bits.proofs.Digits.{length-digits, valueOf-digits}
 use Rattle.format.specs.Fields.{Field, Sense}
 use Rattle.format.specs.Fields.Sense.{plain, scale, distance, textLength}
@@ -28,7 +29,7 @@ abbrev pub AtBit : List ℕ → ℕ → List Entry → Type 0
 AtBit s x es = (ys : List ℕ) × (drop x (bitsOf s) ≡ bits es ++ ys)
 
 abbrev pub valueThere : List ℕ → Field → ℕ → ℕ
-valueThere s f x = valueOf (fieldBits s (f .width) x)
+valueThere s f x = numberAt s (f .width) x
 
 module _ (s : List ℕ) (x : ℕ) (e : Entry) (es : List Entry) (h : AtBit s x (e ∷ es)) where
   pub value-there : e .value < 2 ^ e .field .width → e .value ≡ valueThere s (e .field) x
@@ -36,11 +37,11 @@ module _ (s : List ℕ) (x : ℕ) (e : Entry) (es : List Entry) (h : AtBit s x (
   value-there small =
       let w = e .field .width in
       let d = digits w (e .value) in
+      let there = h .1 ∙ append-assoc d (bits es) (h .0) in
+      let room : w ≤ length (d ++ (bits es ++ h .0)) = rw (length-append d (bits es ++ h .0), length-digits w (e .value)) (omega arith) in
       sym (valueOf-digits w (e .value) small)
       ∙ ap valueOf
-      (sym
-      (ap (take w) (h .1 ∙ append-assoc d (bits es) (h .0))
-      ∙ take-at d (bits es ++ h .0) w (length-digits w (e .value))))
+      (sym (ap (filled w) there ∙ filled-take w (d ++ (bits es ++ h .0)) room ∙ take-at d (bits es ++ h .0) w (length-digits w (e .value))))
 
   pub next-there : AtBit s (x + e .field .width) es
   unfolding bitsIn

@@ -6,8 +6,7 @@ use mathlib.Core.Path.{_≡_, refl, ap, ap₂, _∙_}
 use Prim.Native.Nat.{ℕ, _+_, _*_}
 use native.Mathlib.Omega.{arith}
 use lib.Dec.{eqb}
-use Rattle.bits.specs.Bits.{valueOf}
-use Rattle.bits.specs.Take.{fieldBits}
+use Rattle.bits.specs.Ahead.{numberAt}
 use Rattle.format.specs.Fields.{steers, N-ITER, D-LINK, Q-NEWCOUNTRY, NID-C, NID-BG, Q-LINKORIENTATION, Q-LINKREACTION, Q-LOCACC, D-GRADIENT, Q-GDIR, G-A, D-STATIC, V-STATIC, Q-FRONT, NC-DIFF, V-DIFF, M-LEVELTR, NID-STM, L-ACKLEVELTR, D-TRACKCOND, L-TRACKCOND, M-TRACKCOND, D-POSOFF, Q-MPOSITION, M-POSITION, NID-SIGNAL, NID-FREQUENCY, L-SECTION, D-TSR, L-TSR, V-TSR}
 use Rattle.format.specs.Packets.{Items, _▸_}
 use Rattle.format.specs.Packets.Items.{end, sendIf, sendTimes}
@@ -49,7 +48,7 @@ circuit = NID-SIGNAL ▸ NID-FREQUENCY ▸ L-SECTION ▸ end
 
 -- a distance of w bits at the bit x is, under the scale q, a whole number of metres that fits
 abbrev pub metresAt : List ℕ → ℕ → ℕ → ℕ → Bool
-metresAt s q w x = wholeMetres q w (valueOf (fieldBits s w x))
+metresAt s q w x = wholeMetres q w (numberAt s w x)
 
 pub metres-at : (s : List ℕ) (q w x y : ℕ) → x ≡ y → metresAt s q w x ≡ metresAt s q w y
 metres-at s q w x y e = ap (metresAt s q w) e

@@ -7,12 +7,8 @@ use mathlib.Core.Path.{_≡_, refl, ap, ap₂, _∙_}
 use Prim.Native.Nat.{ℕ, zero, suc, _+_, _^_, _<_, _≤_}
 use native.Mathlib.Omega.{arith}
 use lib.Dec.{eqb}
-use lib.ListN.{length, take, drop}
-use lib.Pow.{pow-mono}
-use Rattle.bits.specs.Bits.{bitsOf, valueOf}
-use Rattle.bits.specs.Take.{fieldBits}
-use Rattle.bits.proofs.Digits.{valueOf-lt}
-use Rattle.bits.proofs.Fields.{below-fieldBits}
+use Rattle.bits.specs.Ahead.{numberAt}
+use Rattle.bits.proofs.Looked.{number-lt}
 use Rattle.distance.specs.Steps.{decimetres}
 use Rattle.format.specs.Fields.{steers, Q-SCALE, N-ITER, D-LEVELTR, NID-C, NID-RBC, NID-RADIO, NID-STM, Q-SLEEPSESSION, Q-TRACKINIT, D-TRACKINIT, Q-TEXTCLASS, Q-TEXTDISPLAY, D-TEXTDISPLAY, M-MODETEXTDISPLAY, M-LEVELTEXTDISPLAY, L-TEXTDISPLAY, T-TEXTDISPLAY, Q-TEXTCONFIRM, L-TEXT, X-TEXT, D-RBCTR}
 use Rattle.format.specs.Packets.{Items, _▸_, _⧺_, find, etcs}
@@ -34,18 +30,6 @@ listed g = g ⧺ sendTimes N-ITER g end
 
 -- ---- a text length, which can be unlimited
 
--- what stands there is a number of so many bits
-take-short : (k : ℕ) (l : List ℕ) → length (take k l) ≤ k
-take-short zero l = omega arith
-take-short (suc k) [] = omega arith
-take-short (suc k) (b ∷ l) = let h = take-short k l in omega arith
-
-there-small : (s : List ℕ) (w x : ℕ) → valueOf (fieldBits s w x) < 2 ^ w
-there-small s w x =
-    let a = valueOf-lt (fieldBits s w x) (below-fieldBits s w x) in
-    let b : 2 ^ length (fieldBits s w x) ≤ 2 ^ w = pow-mono (take-short w (drop x (bitsOf s))) in
-    omega (arith, a, b)
-
 text-field : (q v : ℕ) → q ≤ 2 → v < 32768 → metricField q L-TEXTDISPLAY v ≡ cond (eqb v 32767) true (wholeMetres q 15 v)
 text-field q v hq h = by-test (eqb v 32767) refl
   where
@@ -55,7 +39,7 @@ text-field q v hq h = by-test (eqb v 32767) refl
 
 -- "L_TEXTDISPLAY 32767 is unlimited, at every scale"
 abbrev pub textMetres : List ℕ → ℕ → ℕ → Bool
-textMetres s q y = cond (eqb (valueOf (fieldBits s 15 y)) 32767) true (metresAt s q 15 y)
+textMetres s q y = cond (eqb (numberAt s 15 y) 32767) true (metresAt s q 15 y)
 
 -- behind the text length nothing is a distance
 abbrev behindText : Items
@@ -164,7 +148,7 @@ module _ (s : List ℕ) (x : ℕ) where
           let m = metricField q L-TEXTDISPLAY (valueThere s L-TEXTDISPLAY y) in
           ap (λ (b : Bool). m && b) (metric-quiet s q behindText tt (y + 15))
           ∙ and-true m
-          ∙ text-field q (valueThere s L-TEXTDISPLAY y) l (there-small s 15 y)
+          ∙ text-field q (valueThere s L-TEXTDISPLAY y) l (number-lt s 15 y)
           ∙ ap (textMetres s q) e
 
       text-is : (q : ℕ) → q ≤ 2 → metricAt s q text (x + 25) ≡ metresAt s q 15 (x + 28) && textMetres s q (x + cond byText 58 50)

@@ -1,14 +1,14 @@
 -- A packet with a scale, told in metres over its bits: what is put where its distances stand, and Q_SCALE 1, leave its normal form there, and
 -- everything else as it was. Assumes nothing.
-use mathlib.Core.Bool.{Bool, true, false, cond}
+use mathlib.Core.Bool.{Bool, true, false, cond, _&&_}
 use mathlib.Core.List.{List, [], _∷_, _++_, map, append-assoc}
 use mathlib.Core.Option.{some}
 use mathlib.Core.Path.{_≡_, refl, sym, ap, ap₂, _∙_, subst}
 use Prim.Native.Nat.{ℕ, _+_, _≤_}
 use native.Mathlib.Omega.{arith}
-use lib.Dec.{T, eqb}
+use lib.Dec.{T, eqb, leb}
 use lib.ListN.{length, length-append}
-use borrow.Author.Tests.{eqb-true}
+use borrow.Author.Tests.{eqb-true, le-leb}
 use Rattle.bits.specs.Bits.{digits, bitsOf}
 use Rattle.bits.proofs.Digits.{length-digits}
 use Rattle.format.specs.Among.{holding}
@@ -160,17 +160,17 @@ module _ (s : List ℕ) (x : ℕ) where
 
     -- Whatever its scale and its distances are: in metres already, told in metres, or as it was sent.
     pub told-whole : (out pre post : List ℕ) → length pre ≡ x → Holds out pre es post
-        → Holds (cond (eqb q 1) out (cond (test q) (metresSaid (x + k) (puts q out)) out)) pre (normal es) post
+        → Holds (cond (eqb q 1) out (cond (leb q 2 && test q) (metresSaid (x + k) (puts q out)) out)) pre (normal es) post
     told-whole out pre post l e = by-scale (eqb q 1) refl
       where
         itself : normal es ≡ es → Holds out pre (normal es) post
         itself h = e ∙ ap (λ (l : List Entry). pre ++ (bits l ++ post)) (sym h)
 
-        by-test : (b : Bool) → test q ≡ b → Holds (cond b (metresSaid (x + k) (puts q out)) out) pre (normal es) post
+        by-test : (b : Bool) → test q ≡ b → Holds (cond (true && b) (metresSaid (x + k) (puts q out)) out) pre (normal es) post
         by-test true h = told-normal h out pre post l e
         by-test false h = itself (decided-stays s x (t .decided) h)
 
         by-scale : (b : Bool) → eqb q 1 ≡ b
-            → Holds (cond b out (cond (test q) (metresSaid (x + k) (puts q out)) out)) pre (normal es) post
+            → Holds (cond b out (cond (leb q 2 && test q) (metresSaid (x + k) (puts q out)) out)) pre (normal es) post
         by-scale true h = itself (normal-metres 0 es (decided-metres s x (t .decided) (eqb-true q 1 h)))
-        by-scale false h = by-test (test q) refl
+        by-scale false h = rw (le-leb q 2 (t .decided .known)) (by-test (test q) refl)

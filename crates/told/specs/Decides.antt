@@ -3,7 +3,7 @@
 use mathlib.Core.Bool.{Bool, true, cond, _&&_}
 use mathlib.Core.List.{List}
 use Prim.Native.Nat.{ℕ, zero, suc, _+_, _%_, _^_}
-use lib.Dec.{eqb, ltb}
+use lib.Dec.{eqb, leb, ltb}
 use Rattle.distance.specs.Steps.{step, decimetres, steps}
 use Rattle.told.specs.Metres.{numberIn, metresSaid, linkEnd, profileEnd, levelEnd, placeEnd, linksPut, slopesPut, profilesPut, placesPut, levelsPut, conditionsPut, textPut, handoverPut, circuitsPut, restrictionsPut, reversePut, turnoutPut}
 
@@ -85,10 +85,10 @@ turnoutWhole s x q = wholeIn s q 15 (x + 49)
 
 -- ---- what is put for a packet
 
--- "each scaled packet uses Q_SCALE 1 if ..; otherwise it keeps its scale": with its scale at the bit x
+-- "each scaled packet uses Q_SCALE 1 if ..; otherwise it keeps its scale": with its scale at the bit x. A Q_SCALE of 3 is none, and so nothing is put
 abbrev pub scaledPut : List ℕ → ℕ → (ℕ → Bool) → (ℕ → List ℕ → List ℕ) → List ℕ → List ℕ
 scaledPut s x whole puts out =
-    cond (eqb (numberIn s 2 x) 1) out (cond (whole (numberIn s 2 x)) (metresSaid x (puts (numberIn s 2 x) out)) out)
+    cond (eqb (numberIn s 2 x) 1) out (cond (leb (numberIn s 2 x) 2 && whole (numberIn s 2 x)) (metresSaid x (puts (numberIn s 2 x) out)) out)
 
 -- by the NID_XUSER of the CTCS packet in it
 abbrev pub userPut : List ℕ → ℕ → ℕ → List ℕ → List ℕ

@@ -5,16 +5,15 @@ use mathlib.Core.Bool.{cond}
 use mathlib.Core.List.{List}
 use Prim.Native.Nat.{ℕ, zero, suc, _+_, _*_}
 use lib.Dec.{eqb}
-use Rattle.bits.specs.Bits.{valueOf}
+use Rattle.bits.specs.Ahead.{numberAt}
 use Rattle.bits.specs.Put.{putAt}
-use Rattle.bits.specs.Take.{fieldBits}
 use Rattle.distance.specs.Steps.{decimetres, steps}
 
 -- ---- one distance
 
--- the number in the w bits of s from the bit x on
+-- the number in the w bits of s from the bit x on, with 0 for each that s does not have
 abbrev pub numberIn : List ℕ → ℕ → ℕ → ℕ
-numberIn s w x = valueOf (fieldBits s w x)
+numberIn s w x = numberAt s w x
 
 -- a distance of w bits at the bit x, in steps of the scale q, put there in metres
 abbrev pub inMetres : List ℕ → ℕ → ℕ → ℕ → List ℕ → List ℕ
