@@ -18,6 +18,7 @@ use Rattle.states.proofs.Accepting.{same-bytes}
 use Rattle.states.proofs.Answers.{sized-is, Sound}
 use Rattle.states.proofs.Laying.{few-bits}
 use Rattle.bits.specs.Ahead.{behind}
+use Rattle.bits.proofs.Looked.{number-within}
 use Rattle.bits.proofs.Sight.{Ahead}
 use Rattle.passing.proofs.Sorts.{long-is}
 use Rattle.passing.proofs.Sweeping.{Edge, Sweeps, sweeps-stop, sweeps-start}
@@ -52,7 +53,7 @@ both false b h = let z : _≡_ {A = ℕ} 0 1 = cc in absurd (omega arith)
 pub hopped-on : {s : List ℕ} {x w long : ℕ} → Hopped s 50 x → Ahead s x w → x + 23 ≤ 8 * length s → long ≡ behind w 10 13 → metresThere s x ≡ true
     → Hopped s 50 (x + long)
 hopped-on {s} {x} {w} {long} h a r e m =
-    let same : hop s x ≡ x + long = ap (λ (k : ℕ). x + k) (long-is a r ∙ sym e) in
+    let same : hop s x ≡ x + long = ap (λ (k : ℕ). x + k) (number-within s 13 (x + 10) (omega arith) ∙ long-is a r ∙ sym e) in
     subst (Hopped s 50) same (hopped-more h m)
 
 module _ {s : List ℕ} {n : ℕ} {out : List ℕ} (f : Telling s n out) where

@@ -4,6 +4,7 @@ use mathlib.Core.List.{List, [], _∷_, _++_, append-nil}
 use mathlib.Core.Path.{_≡_, refl, sym, ap, ap₂, _∙_, subst}
 use Prim.Native.Nat.{ℕ, zero, suc, _+_, _-_, _*_, _≤_, _<_}
 use native.Mathlib.Omega.{arith}
+use borrow.Author.Tests.{ne-eqb, lt-ltb, le-ltb, le-leb}
 use lib.ListN.{length, take, drop, replicate, take-append-drop}
 use lib.Seq.{length-take-le, take-append-le, drop-at}
 use Rattle.bits.specs.Bits.{bitsOf, bytesFor, bytesOf, Below}
@@ -22,13 +23,17 @@ use Rattle.states.specs.Normaliser.{Telling, Patching, Normalised}
 use Rattle.states.specs.Writer.{bytesOver}
 use Rattle.states.proofs.Laying.{bytes-behind, few-bits}
 use Rattle.states.proofs.Patching.{copy-behind}
+use Rattle.states.proofs.Telling.{fits-in, patchable, told-over}
+use Rattle.copying.specs.Copies.{copiedTo}
 use Rattle.telling.proofs.InOrder.{InOrder, laid}
 use Rattle.telling.proofs.InOrder.InOrder.{no-more, packet-then}
 use Rattle.telling.proofs.AtBits.{AtBit, at-front, at-behind, at-all, fair-front}
 use Rattle.telling.proofs.Decided.{packet-at, behind-at}
 use Rattle.telling.proofs.MetresThere.{packet-hop, packetCount}
 use Rattle.told.specs.Decides.{packetPut, packetEnd}
-use Rattle.told.specs.Metres.{eachPut}
+use Rattle.told.specs.Metres.{numberIn, eachPut}
+use Rattle.retelling.specs.Retold.{eachPacket, patchedTo}
+use Rattle.retelling.proofs.Packets.{patched-is}
 use Rattle.told.proofs.ByNumber.{telegram-in-metres}
 
 -- ---- a walk
@@ -69,22 +74,26 @@ module _ (s : List ℕ) where
       order-walks (l .order) 50 (fair-front (l .packets) (endMark ∷ []) (fair-after (l .header) tail all))
       (at-front s 50 (l .packets) (endMark ∷ []) there) (omega arith)
 
--- ---- a loop that goes so
+-- ---- packets put one behind the other
+
+module _ (s : List ℕ) (n : ℕ) where
+  none-left : (f x : ℕ) (out : List ℕ) → x + 8 ≡ n → eachPacket f s n x out ≡ out
+  none-left zero x out e = refl
+  none-left (suc f) x out e = rw (le-ltb (x + 8) n (omega arith))
+
+  -- each that such a walk comes to, and no other
+  each-walked : (k f x y : ℕ) (out : List ℕ) → Walks s k x y → y + 8 ≡ n → n ≤ f + x → eachPacket f s n x out ≡ eachPut (packetPut s) (packetEnd s) k x out
+  each-walked zero f x y out w e far = none-left f x out (omega arith)
+  each-walked (suc k) zero x y out w e far = let u = walks-up s k (packetEnd s x) y (w .1) in absurd (omega (arith, w .0))
+  each-walked (suc k) (suc f) x y out w e far =
+      let u = walks-up s k (packetEnd s x) y (w .1) in
+      let some : numberIn s 13 (x + 10) ≡ 0 → ⊥ = λ z. omega (arith, w .0) in
+      rw (lt-ltb (x + 8) n (omega (arith, w .0)), ne-eqb (numberIn s 13 (x + 10)) 0 some)
+      (each-walked k f (packetEnd s x) y (packetPut s x out) (w .1) e (omega (arith, w .0)))
 
 -- every packet put over what is lent
 abbrev walked : {s : List ℕ} {n : ℕ} {base : List ℕ} → Patching s n base → List ℕ
 walked {s} {n} {base} p = eachPut (packetPut s) (packetEnd s) (packetCount (laid paper (p .telling .telegram) .order)) 50 base
-
--- before the packet at the bit x: with those that are left put still, all of them are
-pub record Walking (s : List ℕ) (n : ℕ) (base out : List ℕ) (x : ℕ) : Type 0 where
-  pub patching : Patching s n base
-  pub left : ℕ
-  pub last : ℕ
-  pub ends : last + 8 ≡ n
-  pub walks : Walks s left x last
-  pub puts : eachPut (packetPut s) (packetEnd s) left x out ≡ walked patching
-  pub keeps : length out ≡ length base
-  pub bytes : Below 256 out
 
 module _ {s : List ℕ} {n : ℕ} {base : List ℕ} (p : Patching s n base) where
   long : n ≡ length (bits (p .telling .entries))
@@ -92,7 +101,7 @@ module _ {s : List ℕ} {n : ℕ} {base : List ℕ} (p : Patching s n base) wher
       let f = p .telling in
       sym (length-take-le n (bitsOf s) (rw (length-bitsOf s) (f .within))) ∙ ap length (f .same)
 
-  pub few : (n ≤ 830) × (length s ≤ 104)
+  few : (n ≤ 830) × (length s ≤ 104)
   few = let h = few-bits (p .telling .telegram) long in (h, omega (arith, p .telling .bytes))
 
   -- the telegram, and behind it what was there
@@ -106,7 +115,7 @@ module _ {s : List ℕ} {n : ℕ} {base : List ℕ} (p : Patching s n base) wher
       ∙ f .same in
       sym (take-append-drop n (bitsOf base)) ∙ ap (λ (x : List ℕ). x ++ drop n (bitsOf base)) front
 
-  pub walked-all : Below 256 base → {out : List ℕ} → Below 256 out → out ≡ walked p → Normalised s n base out
+  walked-all : Below 256 base → {out : List ℕ} → Below 256 out → out ≡ walked p → Normalised s n base out
   walked-all b {out} c e es tel k =
       let f = p .telling in
       let form = bits (normal (f .entries)) in
@@ -130,49 +139,23 @@ module _ {s : List ℕ} {n : ℕ} {base : List ℕ} (p : Patching s n base) wher
       ∙ ap (λ (x : List ℕ). bytesOf form ++ x) rest-is
       ∙ ap (λ (x : List Entry). bytesOver (accepted (normal x)) base) (sym (one .0))
 
-  -- before the first packet
-  pub walking-first : Below 256 base → Walking s n base base 50
-  walking-first b =
+  -- **what `patch` leaves is what normalising is to leave**
+  pub patched : Below 256 base → {out : List ℕ} → Below 256 out → out ≡ patchedTo s n base → Normalised s n base out
+  patched b {out} c e =
       let f = p .telling in
       let least = tiled paper (f .telegram) .all in
-      let e : n - 8 + 8 ≡ n = omega (arith, long) in
-      let w = telegram-walks s paper (f .telegram) n long (f .same) (n - 8) e in
-      record { patching = p; left = packetCount (laid paper (f .telegram) .order); last = n - 8; ends = e; walks = w; puts = refl; keeps = refl; bytes = b }
+      let last : n - 8 + 8 ≡ n = omega (arith, long) in
+      let w = telegram-walks s paper (f .telegram) n long (f .same) (n - 8) last in
+      let each = each-walked s n (packetCount (laid paper (f .telegram) .order)) n 50 (n - 8) base w last (omega arith) in
+      let all = patched-is s n base (omega (arith, long, f .bytes)) (omega (arith, f .room)) (few .0) in
+      walked-all b c (e ∙ sym all ∙ each)
 
-module _ {s : List ℕ} {n : ℕ} {base out : List ℕ} {x : ℕ} (g : Walking s n base out x) where
-  pub up : x + 8 ≤ n
-  up = let h = walks-up s (g .left) x (g .last) (g .walks) in omega (arith, g .ends)
+-- ---- over a copy
 
-  -- at the end mark
-  pub walking-all : n ≤ x + 8 → Below 256 base → Normalised s n base out
-  walking-all h b = walked-all (g .patching) b (g .bytes) (none (g .left) (g .walks) (g .puts))
-    where
-      none : (k : ℕ) → Walks s k x (g .last) → eachPut (packetPut s) (packetEnd s) k x out ≡ walked (g .patching) → out ≡ walked (g .patching)
-      none zero w e = e
-      none (suc k) w e = let u = walks-up s k (packetEnd s x) (g .last) (w .1) in absurd (omega (arith, g .ends, w .0))
+module _ {s : List ℕ} {n : ℕ} {out : List ℕ} (f : Telling s n out) where
+  pub copied-whole : {one : List ℕ} → one ≡ copiedTo s out → one ≡ s ++ drop (length s) out
+  copied-whole e = rw (le-leb (length s) (length out) (fits-in f)) at e
 
-  -- before it
-  module _ (h : x + 8 < n) where
-    pub further : (x + 23 ≤ packetEnd s x) × (packetEnd s x + 8 ≤ n)
-    further = by (g .left) (g .walks)
-      where
-        by : (k : ℕ) → Walks s k x (g .last) → (x + 23 ≤ packetEnd s x) × (packetEnd s x + 8 ≤ n)
-        by zero w = absurd (omega (arith, g .ends))
-        by (suc k) w = let u = walks-up s k (packetEnd s x) (g .last) (w .1) in (w .0, omega (arith, g .ends))
-
-    pub walking-on : {after : List ℕ} {y : ℕ} → after ≡ packetPut s x out → y ≡ packetEnd s x → length after ≡ length out → Below 256 after → Walking s n base after y
-    walking-on {after} {y} e ey l b = by (g .left) (g .walks) (g .puts)
-      where
-        by : (k : ℕ) → Walks s k x (g .last) → eachPut (packetPut s) (packetEnd s) k x out ≡ walked (g .patching) → Walking s n base after y
-        by zero w z = absurd (omega (arith, g .ends))
-        by (suc k) w z =
-            record {
-              patching = g .patching;
-              left = k;
-              last = g .last;
-              ends = g .ends;
-              walks = subst (λ (j : ℕ). Walks s k j (g .last)) (sym ey) (w .1);
-              puts = ap₂ (λ (j : ℕ) (o : List ℕ). eachPut (packetPut s) (packetEnd s) k j o) ey e ∙ z;
-              keeps = l ∙ g .keeps;
-              bytes = b;
-            }
+  -- **a telegram is copied, and its packets are put over the copy**
+  pub told : {one two : List ℕ} → one ≡ copiedTo s out → two ≡ patchedTo s n one → Below 256 one → Below 256 two → Normalised s n out two
+  told e h b c = let k = copied-whole e in told-over f k (patched (patchable f k) b c h)

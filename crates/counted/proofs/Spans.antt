@@ -14,6 +14,7 @@ use Rattle.bits.specs.Take.{fieldBits, skipAt}
 use Rattle.bits.specs.declared.Skipped.{Skipped}
 use Rattle.bits.specs.declared.Skipped.the-variants.{To, Lacking}
 use Rattle.bits.proofs.Fields.{skipped}
+use Rattle.bits.proofs.Looked.{number-within}
 use Rattle.bits.proofs.Sight.{Ahead}
 use Rattle.format.specs.Fields.{Q-ASPECT, Q-SRSTOP, D-STARTREVERSE, L-REVERSEAREA, D-TURNOUT, V-TURNOUT}
 use Rattle.format.specs.Packets.{Items, _▸_, _⧺_, etcs, ctcs, find}
@@ -82,7 +83,7 @@ module _ {s : List ℕ} {x w : ℕ} (a : Ahead s x w) (long : ℕ) (room : x + l
         kept = λ h.
             let g = passed-grows (i h .body) in
             kept-by a (omega arith) id f e dir (own (i h .body)) (i h .counts);
-        metres = λ h m. let g = passed-grows (i h .body) in there-none s x id t f o (id-is a (omega arith) ∙ e);
+        metres = λ h m. let g = passed-grows (i h .body) in there-none s x id t f o (number-within s 8 x (omega arith) ∙ id-is a (omega arith) ∙ e);
       }
 
   own-scaled : (id : ℕ) (t : Items) → Scaled (find id etcs) t → behind w 0 8 ≡ id → (v : ℕ) → Body t 25 4 v → C (scaledBy (behind w 23 2) v)
@@ -98,7 +99,8 @@ module _ {s : List ℕ} {x w : ℕ} (a : Ahead s x w) (long : ℕ) (room : x + l
             kept-by a (omega arith) id f e dir (own (pass tt (omega arith, scale) refl (passed-from (i h .body) there))) (omega (arith, i h .counts));
         metres = λ h m.
             let g = passed-grows (i h .body) in
-            there-own s x id t f (id-is a (omega arith) ∙ e) ∙ rw (scale-is 23 (omega arith) (omega arith)) m;
+            there-own s x id t f (number-within s 8 x (omega arith) ∙ id-is a (omega arith) ∙ e)
+            ∙ rw (number-within s 2 (x + 23) (omega arith), scale-is 23 (omega arith) (omega arith)) m;
       })
       none-counted
 
@@ -117,7 +119,8 @@ module _ {s : List ℕ} {x w : ℕ} (a : Ahead s x w) (long : ℕ) (room : x + l
         record {
           kept = λ h. let c = i h .counts in rw c (kept-44 a room dir e alike inner u f k g (i h .body));
           metres = λ h m.
-              let l = passed-grows (i h .body) in there-user-none s x u t f o (name-is (omega arith)) (user-is (omega arith) ∙ k);
+              let l = passed-grows (i h .body) in there-user-none s x u t f o (number-within s 8 x (omega arith) ∙ name-is (omega arith))
+              (number-within s 9 (x + 23) (omega arith) ∙ user-is (omega arith) ∙ k);
         }
 
     user-scaled : (u : ℕ) (t : Items) → Scaled (find u ctcs) t → behind w 23 9 ≡ u → (v : ℕ) → Body t 49 7 v → C (scaledBy (behind w 47 2) v)
@@ -134,7 +137,8 @@ module _ {s : List ℕ} {x w : ℕ} (a : Ahead s x w) (long : ℕ) (room : x + l
               rw c (kept-44 a room dir e alike inner u f k tt (pass tt (omega arith, scale) refl (passed-from (i h .body) there)));
           metres = λ h m.
               let g = passed-grows (i h .body) in
-              there-user s x u t f (name-is (omega arith)) (user-is (omega arith) ∙ k) ∙ rw (scale-is 47 (omega arith) (omega arith)) m;
+              there-user s x u t f (number-within s 8 x (omega arith) ∙ name-is (omega arith)) (number-within s 9 (x + 23) (omega arith) ∙ user-is (omega arith) ∙ k)
+              ∙ rw (number-within s 2 (x + 47) (omega arith), scale-is 47 (omega arith) (omega arith)) m;
         })
         none-counted
 

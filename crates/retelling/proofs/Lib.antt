@@ -1,4 +1,4 @@
--- Distances by the code, and one outcome to the promise.
-pub mod Distances
+-- What is put by numbers, packet by packet, and that the promise has one outcome.
 pub mod ByNumber
+pub mod Packets
 pub mod Once

@@ -1,63 +1,41 @@
--- What is put for a packet, with the lists by what they are lists of. Definitions alone.
+-- What is put for the packets of a telegram, one behind the other. Definitions alone.
+use mathlib.Core.Path.{_≡_}
 use mathlib.Core.Bool.{Bool, cond, _&&_}
 use mathlib.Core.List.{List}
-use Prim.Native.Nat.{ℕ, _+_}
-use lib.Dec.{eqb, leb}
+use Prim.Native.Nat.{ℕ, zero, suc, _+_, _≤_}
+use lib.Dec.{eqb, leb, ltb}
 use lib.ListN.{length}
-use Rattle.distance.specs.Steps.{decimetres, steps}
-use Rattle.told.specs.Metres.{numberIn, inMetres, linkEnd, profileEnd, levelPut, levelEnd, twoPut, placePut, placeEnd, circuitPut}
-use Rattle.told.specs.Decides.{wholeIn, levelWhole, twoWhole, placeWhole, circuitWhole, packetPut}
-use Rattle.retelling.specs.declared.Group.{Group}
-use Rattle.retelling.specs.declared.Group.the-variants.{Links, Slopes, Profiles, Levels, Conditions, Places, Sections, Restrictions}
+use Rattle.bits.specs.Ahead.{seenAt}
+use Rattle.distance.specs.Distance.{numberOf}
+use Rattle.distance.specs.declared.Scale.{Scale}
+use Rattle.metre_lists.specs.Groups.{roomed}
+use Rattle.told.specs.Metres.{numberIn, metresSaid}
+use Rattle.told.specs.Decides.{packetPut, packetEnd}
 
--- v steps of the scale q in whole metres
-abbrev pub metresOf : ℕ → ℕ → ℕ
-metresOf q v = steps 1 (decimetres q v)
+-- what a packet with its scale at the bit q becomes, whether or not it can be told in metres
+abbrev pub toldBy : ℕ → Bool → (List ℕ → List ℕ) → List ℕ → List ℕ
+toldBy q whole puts out = cond whole (metresSaid q (puts out)) out
 
--- where the first distance of a group at the bit y stands
-abbrev pub firstOf : Group → List ℕ → ℕ → ℕ
-firstOf Links s y = y
-firstOf Slopes s y = y
-firstOf Profiles s y = y
-firstOf Levels s y = y + cond (eqb (numberIn s 3 y) 1) 11 3
-firstOf Conditions s y = y
-firstOf Places s y = y + cond (eqb (numberIn s 1 y) 1) 25 15
-firstOf Sections s y = y + 9
-firstOf Restrictions s y = y
+-- a packet begins at the bit x of a telegram's bytes, and w lies ahead there
+abbrev pub Within : List ℕ → ℕ → ℕ → Type 0
+Within s x w = (8 ≤ length s) × (x ≤ 830) × (w ≡ seenAt s x)
 
--- whether its distances are whole metres that fit, in steps of the scale q
-abbrev pub wholeOf : Group → List ℕ → ℕ → ℕ → Bool
-wholeOf Links s q y = wholeIn s q 15 y
-wholeOf Slopes s q y = wholeIn s q 15 y
-wholeOf Profiles s q y = wholeIn s q 15 y
-wholeOf Levels s q y = levelWhole s q y
-wholeOf Conditions s q y = twoWhole s q y
-wholeOf Places s q y = placeWhole s q y
-wholeOf Sections s q y = circuitWhole s q y
-wholeOf Restrictions s q y = twoWhole s q y
+-- how far behind its first bit a packet has its Q_SCALE: ETCS-44 behind the head of the CTCS packet in it
+abbrev pub scaleBit : List ℕ → ℕ → ℕ
+scaleBit s x = cond (eqb (numberIn s 8 x) 44) 47 23
 
--- where it ends
-abbrev pub endOf : Group → List ℕ → ℕ → ℕ
-endOf Links s y = linkEnd s y
-endOf Slopes s y = y + 24
-endOf Profiles s y = profileEnd s y
-endOf Levels s y = levelEnd s y
-endOf Conditions s y = y + 34
-endOf Places s y = placeEnd s y
-endOf Sections s y = y + 24
-endOf Restrictions s y = y + 38
+-- the Q_SCALE at the bit b is that of the scale k, which is not that of metres
+abbrev pub Turns : List ℕ → ℕ → Scale → Type 0
+Turns s b k = (numberIn s 2 b ≡ numberOf k) × (numberOf k ≡ 1 → ⊥)
 
--- what is put for it
-abbrev pub putOf : Group → List ℕ → ℕ → ℕ → List ℕ → List ℕ
-putOf Links s q y out = inMetres s q 15 y out
-putOf Slopes s q y out = inMetres s q 15 y out
-putOf Profiles s q y out = inMetres s q 15 y out
-putOf Levels s q y out = levelPut s q y out
-putOf Conditions s q y out = twoPut s q y out
-putOf Places s q y out = placePut s q y out
-putOf Sections s q y out = circuitPut s q y out
-putOf Restrictions s q y out = twoPut s q y out
+-- every packet from the bit x on, as long as one ends before the end mark of a telegram of n bits; there are at most k
+abbrev pub eachPacket : ℕ → List ℕ → ℕ → ℕ → List ℕ → List ℕ
+eachPacket zero s n x out = out
+eachPacket (suc k) s n x out =
+    cond (ltb (x + 8) n)
+    (cond (eqb (numberIn s 13 (x + 10)) 0) (packetPut s x out) (eachPacket k s n (packetEnd s x) (packetPut s x out)))
+    out
 
--- what is put for the packet at the bit x, of a telegram's bytes
-unfoldable pub retoldAt : List ℕ → ℕ → List ℕ → List ℕ
-retoldAt s x out = cond (leb (length s) 104 && leb x 830) (packetPut s x out) out
+-- those behind the header, each of which takes a bit at least
+unfoldable pub patchedTo : List ℕ → ℕ → List ℕ → List ℕ
+patchedTo s n out = cond (roomed s out && leb n 830) (eachPacket n s n 50 out) out

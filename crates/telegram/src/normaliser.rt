@@ -2,18 +2,14 @@
 //
 // A refusal changes no output, so normalising checks first. A telegram of which the check saw that each packet is in metres or has no scale is copied; over a copy of
 // any other each packet is told by its kind, once, from the end of the header on.
-ghost use mathlib.Core.Path.{_≡_};
-ghost use mathlib.Core.List.{_++_};
-ghost use Prim.Native.Nat.{_≤_};
-ghost use lib.ListN.{length, drop};
 ghost use Rattle.format.specs.Rules.{paper};
-ghost use Rattle.states.specs.Normaliser.{Normalise, Telling, Patching, Normalised};
+ghost use Rattle.states.specs.Normaliser.{Normalise, Telling, Normalised};
 use crate::answer::refuse;
 use crate::reader::find;
+use copying::copy;
 use format::Answer;
 use format::Kind;
-use readings::number;
-use retelling::retell;
+use retelling::patch;
 
 // Writes the normal form of a telegram into out, and answers its n. A refusal leaves out as it was.
 pub fn normalise(s: &[u8], n: usize, out: &mut [u8]) -> Answer
@@ -42,28 +38,4 @@ fn tell(s: &[u8], n: usize, out: &mut [u8])
 {
     copy(s, out);
     patch(s, n, out);
-}
-
-// Copies s to the front of out.
-fn copy(s: &[u8], out: &mut [u8])
-    requires { ⌜ length (now s) ≤ length (now out) ⌝ }
-    ensures { λ r. ⌜ now (out .exit) ≡ now (s .entry) ++ drop (length (now (s .entry))) (now (out .entry)) ⌝ }
-{
-    let mut i = 0;
-    while i < s.len() {
-        out[i] = s[i];
-        i += 1;
-    }
-}
-
-// Puts over a telegram that stands in front of out what its normal form has otherwise, packet by packet, up to its end mark.
-fn patch(s: &[u8], n: usize, out: &mut [u8])
-    requires { ⌜ Patching (now s) n (now out) ⌝ }
-    ensures { λ r. ⌜ Normalised (now (s .entry)) n (now (out .entry)) (now (out .exit)) ⌝ }
-{
-    let mut x = 50;
-    while x + 8 < n {
-        retell(s, x, out);
-        x += number(s, x + 10, 13) as usize;
-    }
 }

@@ -1,57 +1,51 @@
 -- `retelling::two` meets its contract. Assumes nothing.
-use mathlib.Core.Bool.{_&&_}
+use mathlib.Core.Bool.{Bool, true, false, cond, _&&_}
 use mathlib.Core.List.{List}
 use mathlib.Core.Path.{_≡_, refl, sym, ap, _∙_}
-use Prim.Native.Nat.{ℕ, _+_, _*_, _^_, _≤_, _<_}
+use Prim.Native.Nat.{ℕ, _+_, _≤_, _<_}
 use native.Mathlib.Omega.{arith}
-use borrow.Author.Needs.{needs}
 use borrow.Author.Tests.{eq-eqb, ne-eqb, not-true, not-false}
 use denote.Ref.{now}
-use Rattle.readings.proofs.Within.{within}
-use Rattle.told.specs.Metres.{numberIn}
-use Rattle.told.specs.Metres.{inMetres, metresSaid, listPut}
-use Rattle.told.specs.Decides.{wholeIn, listWhole, scaledPut}
-use Rattle.retelling.specs.Retold.{wholeOf, putOf, endOf}
-use Rattle.retelling.proofs.Distances.{number-small, in-metres, stays, turned, both-true, second-false, first-false}
+use lib.ListN.{length}
+use Rattle.distance.specs.Distance.{numberOf}
+use Rattle.told.specs.Metres.{numberIn, inMetres, textInMetres, metresSaid, listPut, conditionsPut, textPut}
+use Rattle.told.specs.Decides.{wholeIn, textWhole, listWhole, conditionsWhole, wordsWhole}
+use Rattle.retelling.proofs.ByNumber.{distance-is, put-is, stays, tells, first-false, second-false, both-true}
+use borrow.Author.Needs.{needs}
 use Rattle.retelling.proofs.two.Statement.{statement}
 use Rattle.retelling.proofs.two.Tie as tie
 
-number-requires : tie.Need-number-requires
-number-requires c κs = search needs
+distance-whole-requires : tie.Need-distance-whole-requires
+distance-whole-requires c κs = search needs
 
 returns : tie.Need-returns
-returns c = let a = c .before .before .before .before .args in in-metres (now (a .s)) (a .k) (λ (q : ℕ). wholeIn (now (a .s)) q 15 (a .d) && wholeIn (now (a .s)) q 15 (a .d + 15)) (λ (q : ℕ) (o : List ℕ). inMetres (now (a .s)) q 15 (a .d + 15) (inMetres (now (a .s)) q 15 (a .d) o)) (now (a .out)) (c .before .number .result) (c .before .number .ensures ∙ within (now (c .before .before .before .before .args .s)) 2 (a .k) (omega arith) (omega arith)) (c .if1 .taken)
+returns c =
+    let a = c .before .before .before .before .args in
+    let long : 8 ≤ length (now (a .s)) = omega arith in
+    stays (a .q) ((wholeIn (now (a .s)) (numberOf (a .k)) 15 (a .d)) && (wholeIn (now (a .s)) (numberOf (a .k)) 15 (a .d + 15))) (λ (o : List ℕ). inMetres (now (a .s)) (numberOf (a .k)) 15 (a .d + 15) (inMetres (now (a .s)) (numberOf (a .k)) 15 (a .d) o)) (now (a .out)) (first-false (wholeIn (now (a .s)) (numberOf (a .k)) 15 (a .d)) (wholeIn (now (a .s)) (numberOf (a .k)) 15 (a .d + 15)) (sym (distance-is (now (a .s)) long (c .before .distance-whole .ensures)) ∙ not-true _ (c .if1 .taken)))
 
-whole-requires : tie.Need-whole-requires
-whole-requires c κs = (omega (arith, c .before .before .before .before .pre .0), omega (arith, (c .before .number .ensures ∙ within (now (c .before .before .before .before .args .s)) 2 (c .before .before .before .before .args .k) (omega arith) (omega arith)), number-small (now (c .before .before .before .before .args .s)) 2 (c .before .before .before .before .args .k)), omega arith)
+add-distance-whole : tie.Need-add-distance-whole
+add-distance-whole c = search needs
+
+distance-whole-requires-2 : tie.Need-distance-whole-requires-2
+distance-whole-requires-2 c κs = search needs
 
 returns-2 : tie.Need-returns-2
 returns-2 c =
     let a = c .before .before .before .before .before .before .args in
-    stays (now (a .s)) (a .k) (λ (q : ℕ). wholeIn (now (a .s)) q 15 (a .d) && wholeIn (now (a .s)) q 15 (a .d + 15)) (λ (q : ℕ) (o : List ℕ). inMetres (now (a .s)) q 15 (a .d + 15) (inMetres (now (a .s)) q 15 (a .d) o)) (now (a .out)) (c .before .before .before .number .result) (c .before .before .before .number .ensures ∙ within (now (c .before .before .before .before .before .before .args .s)) 2 (a .k) (omega arith) (omega arith)) (c .before .before .if1 .left)
-    (first-false _ _ (sym (c .before .whole .ensures) ∙ not-true _ (c .if2 .taken)))
+    let long : 8 ≤ length (now (a .s)) = omega arith in
+    stays (a .q) ((wholeIn (now (a .s)) (numberOf (a .k)) 15 (a .d)) && (wholeIn (now (a .s)) (numberOf (a .k)) 15 (a .d + 15))) (λ (o : List ℕ). inMetres (now (a .s)) (numberOf (a .k)) 15 (a .d + 15) (inMetres (now (a .s)) (numberOf (a .k)) 15 (a .d) o)) (now (a .out))
+    (second-false (wholeIn (now (a .s)) (numberOf (a .k)) 15 (a .d)) (wholeIn (now (a .s)) (numberOf (a .k)) 15 (a .d + 15)) (sym (distance-is (now (a .s)) long (c .before .before .before .distance-whole .ensures)) ∙ not-false _ (c .before .before .if1 .left))
+    (sym (distance-is (now (a .s)) long (c .before .distance-whole2 .ensures)) ∙ not-true _ (c .if2 .taken)))
 
-add-whole : tie.Need-add-whole
-add-whole c = search needs
+distance-put-requires : tie.Need-distance-put-requires
+distance-put-requires c κs = search needs
 
-whole-requires-2 : tie.Need-whole-requires-2
-whole-requires-2 c κs = (omega (arith, c .before .before .before .before .before .before .pre .0), omega (arith, (c .before .before .before .number .ensures ∙ within (now (c .before .before .before .before .before .before .args .s)) 2 (c .before .before .before .before .before .before .args .k) (omega arith) (omega arith)), number-small (now (c .before .before .before .before .before .before .args .s)) 2 (c .before .before .before .before .before .before .args .k)), omega arith)
+add-distance-put : tie.Need-add-distance-put
+add-distance-put c = search needs
 
-returns-3 : tie.Need-returns-3
-returns-3 c =
-    let a = c .before .before .before .before .before .before .before .before .args in
-    stays (now (a .s)) (a .k) (λ (q : ℕ). wholeIn (now (a .s)) q 15 (a .d) && wholeIn (now (a .s)) q 15 (a .d + 15)) (λ (q : ℕ) (o : List ℕ). inMetres (now (a .s)) q 15 (a .d + 15) (inMetres (now (a .s)) q 15 (a .d) o)) (now (a .out)) (c .before .before .before .before .before .number .result) (c .before .before .before .before .before .number .ensures ∙ within (now (c .before .before .before .before .before .before .before .before .args .s)) 2 (a .k) (omega arith) (omega arith)) (c .before .before .before .before .if1 .left)
-    (second-false _ _ (sym (c .before .before .before .whole .ensures) ∙ not-false _ (c .before .before .if2 .left))
-    (sym (c .before .whole2 .ensures) ∙ not-true _ (c .if3 .taken)))
-
-put-requires : tie.Need-put-requires
-put-requires c κs = (omega (arith, c .before .before .before .before .before .before .before .before .before .pre .0), omega (arith, (c .before .before .before .before .before .before .number .ensures ∙ within (now (c .before .before .before .before .before .before .before .before .before .args .s)) 2 (c .before .before .before .before .before .before .before .before .before .args .k) (omega arith) (omega arith)), number-small (now (c .before .before .before .before .before .before .before .before .before .args .s)) 2 (c .before .before .before .before .before .before .before .before .before .args .k)), omega arith)
-
-add-put : tie.Need-add-put
-add-put c = search needs
-
-put-requires-2 : tie.Need-put-requires-2
-put-requires-2 c κs = (omega (arith, c .before .before .before .before .before .before .before .before .before .before .before .before .before .pre .0), omega (arith, (c .before .before .before .before .before .before .before .before .before .before .number .ensures ∙ within (now (c .before .before .before .before .before .before .before .before .before .before .before .before .before .args .s)) 2 (c .before .before .before .before .before .before .before .before .before .before .before .before .before .args .k) (omega arith) (omega arith)), number-small (now (c .before .before .before .before .before .before .before .before .before .before .before .before .before .args .s)) 2 (c .before .before .before .before .before .before .before .before .before .before .before .before .before .args .k)), omega arith)
+distance-put-requires-2 : tie.Need-distance-put-requires-2
+distance-put-requires-2 c κs = search needs
 
 said-requires : tie.Need-said-requires
 said-requires c κs = search needs
@@ -59,29 +53,30 @@ said-requires c κs = search needs
 same-length : tie.Need-same-length
 same-length c = search needs
 
-returns-4 : tie.Need-returns-4
-returns-4 c =
-    let a = c .before .before .before .before .before .before .before .before .before .before .before .before .before .before .before .before .before .before .before .before .args in
+returns-3 : tie.Need-returns-3
+returns-3 c =
+    let a = c .before .before .before .before .before .before .before .before .before .before .before .before .before .before .before .before .before .before .args in
+    let long : 8 ≤ length (now (a .s)) = omega arith in
+    let one = put-is (now (a .s)) long (now (a .out)) (omega arith) (c .before .before .before .before .before .before .before .before .before .before .distance-put .ensures) in
+    let two = put-is (now (a .s)) long (c .before .before .before .before .before .before .before .before .before .before .distance-put .last .1 .1 .1 .0) (omega (arith, c .before .before .before .before .before .before .before .before .before .out .given)) (c .before .before .before .before .before .before .distance-put2 .ensures) in
     c .before .before .said .ensures
-    ∙ rw (c .before .before .before .before .before .before .put2 .ensures, c .before .before .before .before .before .before .before .before .before .before .put .ensures)
-    (turned (now (a .s)) (a .k) (λ (q : ℕ). wholeIn (now (a .s)) q 15 (a .d) && wholeIn (now (a .s)) q 15 (a .d + 15)) (λ (q : ℕ) (o : List ℕ). inMetres (now (a .s)) q 15 (a .d + 15) (inMetres (now (a .s)) q 15 (a .d) o)) (now (a .out)) (c .before .before .before .before .before .before .before .before .before .before .before .before .before .before .before .before .before .number .result) (c .before .before .before .before .before .before .before .before .before .before .before .before .before .before .before .before .before .number .ensures ∙ within (now (c .before .before .before .before .before .before .before .before .before .before .before .before .before .before .before .before .before .before .before .before .args .s)) 2 (a .k) (omega arith) (omega arith)) (c .before .before .before .before .before .before .before .before .before .before .before .before .before .before .before .before .if1 .left)
-    (both-true _ _ (sym (c .before .before .before .before .before .before .before .before .before .before .before .before .before .before .before .whole .ensures) ∙ not-false _ (c .before .before .before .before .before .before .before .before .before .before .before .before .before .before .if2 .left))
-    (sym (c .before .before .before .before .before .before .before .before .before .before .before .before .before .whole2 .ensures) ∙ not-false _ (c .before .before .before .before .before .before .before .before .before .before .before .before .if3 .left))))
+    ∙ ap (metresSaid (a .q)) (two ∙ ap (inMetres (now (a .s)) (numberOf (a .k)) 15 (a .d + 15)) one)
+    ∙ tells (a .q) ((wholeIn (now (a .s)) (numberOf (a .k)) 15 (a .d)) && (wholeIn (now (a .s)) (numberOf (a .k)) 15 (a .d + 15))) (λ (o : List ℕ). inMetres (now (a .s)) (numberOf (a .k)) 15 (a .d + 15) (inMetres (now (a .s)) (numberOf (a .k)) 15 (a .d) o)) (now (a .out))
+    (both-true (wholeIn (now (a .s)) (numberOf (a .k)) 15 (a .d)) (wholeIn (now (a .s)) (numberOf (a .k)) 15 (a .d + 15)) (sym (distance-is (now (a .s)) long (c .before .before .before .before .before .before .before .before .before .before .before .before .before .before .before .distance-whole .ensures)) ∙ not-false _ (c .before .before .before .before .before .before .before .before .before .before .before .before .before .before .if1 .left))
+    (sym (distance-is (now (a .s)) long (c .before .before .before .before .before .before .before .before .before .before .before .before .before .distance-whole2 .ensures)) ∙ not-false _ (c .before .before .before .before .before .before .before .before .before .before .before .before .if2 .left)))
 
 pub two-spec : {M : Type 1} → statement M
 two-spec =
     tie.close
     (tie.spec
-    number-requires
+    distance-whole-requires
     returns
-    whole-requires
+    add-distance-whole
+    distance-whole-requires-2
     returns-2
-    add-whole
-    whole-requires-2
-    returns-3
-    put-requires
-    add-put
-    put-requires-2
+    distance-put-requires
+    add-distance-put
+    distance-put-requires-2
     said-requires
     same-length
-    returns-4)
+    returns-3)

@@ -4,9 +4,9 @@ use borrow.Author.Needs.{needs}
 use denote.Ref.{now}
 use Rattle.bits.proofs.Bytes.{below-known}
 use Rattle.counted.proofs.Copied.{copied}
+use Rattle.counted.proofs.Patched.{copied-whole}
 use Rattle.format.proofs.Numbers.{answer-is}
 use Rattle.states.proofs.Normalising.{normalises-roomless, normalises-refused, normalises-accepted, tellable}
-use Rattle.states.proofs.Telling.{fits-in}
 use Rattle.telegram.proofs.normaliser.normalise.Statement.{statement}
 use Rattle.telegram.proofs.normaliser.normalise.Tie as tie
 
@@ -33,9 +33,7 @@ returns-2 c =
     normalises-refused (now (a .s)) (a .n) (now (a .out)) (c .before .before .before .if1 .left) (answer-is _ _ (c .before .before .find .ensures .0)) (c .enum-told2 .given .1)
 
 copy-requires : tie.Need-copy-requires
-copy-requires c κs =
-    let a = c .before .before .before .before .before .before .before .before .args in
-    fits-in (tellable (now (a .s)) (a .n) (now (a .out)) (c .before .before .before .before .before .if1 .left) (answer-is _ _ (c .before .before .before .before .find .ensures .0)) (c .before .before .enum-told .given .1))
+copy-requires c κs = search needs
 
 same-length : tie.Need-same-length
 same-length c = search needs
@@ -50,7 +48,7 @@ returns-3 c =
     let t = tellable s (a .n) out (c .before .before .before .before .before .before .before .before .if1 .left) e (c .before .before .before .before .before .enum-told .given .1) in
     let b = below-known 256 s (λ i. c .before .before .before .before .before .before .before .before .before .before .shared-slice-known .given i .fits) in
     normalises-accepted s (a .n) out (c .before .before .before .before .before .before .before .before .if1 .left) e (c .before .before .before .before .before .enum-told .given .1) _
-    (rw (c .before .before .copy .ensures) (copied t b (f .1 (c .before .before .before .before .if2 .taken))))
+    (rw (copied-whole t (c .before .before .copy .ensures)) (copied t b (f .1 (c .before .before .before .before .if2 .taken))))
 
 tell-requires : tie.Need-tell-requires
 tell-requires c κs =

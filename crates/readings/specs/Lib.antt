@@ -1,2 +1,0 @@
--- What the promise of this crate cites.
-pub mod Readings
