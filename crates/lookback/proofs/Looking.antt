@@ -3,11 +3,11 @@ use mathlib.Core.Bool.{Bool, true, false, _&&_}
 use mathlib.Core.List.{List}
 use mathlib.Core.Path.{_≡_, refl, sym, ap, _∙_}
 use Prim.Native.Nat.{ℕ, zero, suc, _+_, _-_, _*_, _/_, _%_, _^_, _≤_, _<_}
-use native.Mathlib.Nat.{zero-add}
+use native.Mathlib.Nat.{zero-add, not-le-of-lt}
 use native.Mathlib.Omega.{arith}
-use borrow.Author.Tests.{eqb-true}
+use borrow.Author.Tests.{eqb-true, ltb-false}
 use lib.Bits.{bitXor, xor-self, xor-block, xor-lt}
-use lib.Dec.{eqb}
+use lib.Dec.{eqb, ltb}
 use lib.ListN.{length}
 use Rattle.bits.specs.Bits.{valueOf}
 use Rattle.bits.specs.Take.{fieldBits}
@@ -85,22 +85,24 @@ module _ {s : List ℕ} {stop id dir p : ℕ} (h : Hopping s stop id dir p) wher
         let g = n .part 10 13 (omega arith) in
         omega arith
 
-    module _ (passes : bitXor (id * 2 ^ 2 % 2 ^ 64 + (2 + dir % 2)) (w / 2 ^ 22) < 3 + dir / 2 → ⊥) (some : 23 ≤ w / 2 ^ 9 % 8192) where
+    module _ {a : ℕ} (apart : ltb (bitXor (id * 2 ^ 2 % 2 ^ 64 + (2 + dir % 2)) (w / 2 ^ 22)) (3 + dir / 2) ≡ false) (hop : a ≡ w / 2 ^ 9 % 8192) (some : 23 ≤ a) where
       none-hit : (eqb id (idIn all) && clash dir (dirIn all)) ≡ false
       none-hit = by (eqb id (idIn all) && clash dir (dirIn all)) refl
         where
           by : (b : Bool) → (eqb id (idIn all) && clash dir (dirIn all)) ≡ b → b ≡ false
           by false e = refl
-          by true e = absurd (passes (clash-xor id dir (w / 2 ^ 22) (omega (arith, n .small)) (rw (id-there, dir-there) at e)))
+          by true e =
+              let l = clash-xor id dir (w / 2 ^ 22) (omega (arith, n .small)) (rw (id-there, dir-there) at e) in
+              absurd (not-le-of-lt l (ltb-false _ _ apart))
 
-      next-is : p + 23 + (longIn all - 23) ≡ p + w / 2 ^ 9 % 8192
+      next-is : p + 23 + (longIn all - 23) ≡ p + a
       next-is = omega (arith, long-there)
 
       fewer : h .left ≡ suc (h .left - 1)
       fewer = omega (arith, h .enough)
 
       -- and on from the next
-      pub looks-on : Hopping s stop id dir (p + w / 2 ^ 9 % 8192)
+      pub looks-on : Hopping s stop id dir (p + a)
       looks-on =
           record {
             left = h .left - 1;

@@ -1,15 +1,16 @@
 -- The check and the reader by the tests that they make: 1, then 2, then 3, then field by field. Assumes nothing.
-use mathlib.Core.Path.{_≡_, refl, ap}
+use mathlib.Core.Path.{_≡_, refl, sym, ap, _∙_}
 use mathlib.Core.Bool.{Bool, true, false, cond, _&&_}
-use mathlib.Core.List.{List}
-use Prim.Native.Nat.{ℕ, _*_, _≤_, _<_}
+use mathlib.Core.List.{List, [], _++_, append-nil}
+use Prim.Native.Nat.{ℕ, suc, _+_, _-_, _*_, _%_, _^_, _≤_, _<_}
 use native.Mathlib.Omega.{arith}
 use borrow.Author.Tests.{leb-true, eqb-true}
 use lib.Dec.{eqb, leb}
-use lib.ListN.{length, take}
-use lib.Seq.{length-take-le}
-use Rattle.bits.specs.Bits.{bitsOf, bytesFor}
-use Rattle.bits.proofs.Bytes.{length-bitsOf, below-bitsOf, below-take}
+use lib.ListN.{length, take, drop, getD, drop-of-length-le}
+use lib.Seq.{length-take-le, split-at, drop-drop, drop-at}
+use Rattle.bits.specs.Bits.{digits, valueOf, bitsOf, bytesFor}
+use Rattle.bits.proofs.Bytes.{length-bitsOf, below-bitsOf, below-take, bitsOf-append, bitsOf-cons}
+use Rattle.bits.proofs.Digits.{drop-digits, valueOf-digits-mod}
 use Rattle.format.specs.Refusals.{inNumbers}
 use Rattle.format.specs.Rules.{Terms, paper}
 use Rattle.format.specs.Telegrams.{values, Entry, Result, Telegram, bits, read}
@@ -35,6 +36,33 @@ three true true true h = (refl, refl, refl)
 three true true false h = let z : _≡_ {A = ℕ} 0 1 = cc in absurd (omega arith)
 three true false c h = let z : _≡_ {A = ℕ} 0 1 = cc in absurd (omega arith)
 three false b c h = let z : _≡_ {A = ℕ} 0 1 = cc in absurd (omega arith)
+
+no-bytes : bitsOf [] ≡ []
+unfolding bitsOf
+no-bytes = refl
+
+-- the last u bits of bytes are the low bits of the last byte
+pub last-bits : (s : List ℕ) (n u : ℕ) → 0 < length s → n + u ≡ 8 * length s → u ≤ 8 → valueOf (drop n (bitsOf s)) ≡ getD s (length s - 1) 0 % 2 ^ u
+last-bits s n u some e h =
+    let q = length s - 1 in
+    let x = getD s q 0 in
+    let before = bitsOf (take q s) in
+    let split : bitsOf s ≡ before ++ (digits 8 x ++ bitsOf (drop (suc q) s)) =
+    ap bitsOf (split-at s q 0 (omega arith)) ∙ bitsOf-append (take q s) _ ∙ ap (λ (l : List ℕ). before ++ l) (bitsOf-cons _ _) in
+    let size : length before ≡ 8 * q = length-bitsOf (take q s) ∙ ap (λ (k : ℕ). 8 * k) (length-take-le q s (omega arith)) in
+    let place : n ≡ 8 * q + (8 - u) = omega arith in
+    let byte : 8 ≡ 8 - u + u = omega arith in
+    let none : bitsOf (drop (suc q) s) ≡ [] = ap bitsOf (drop-of-length-le s {i = suc q} (omega arith)) ∙ no-bytes in
+    ap valueOf
+    (ap (λ (k : ℕ). drop k (bitsOf s)) place
+    ∙ ap (drop (8 * q + (8 - u))) split
+    ∙ sym (drop-drop (8 - u) (8 * q) (before ++ (digits 8 x ++ bitsOf (drop (suc q) s))))
+    ∙ ap (drop (8 - u)) (drop-at before (digits 8 x ++ bitsOf (drop (suc q) s)) (8 * q) size)
+    ∙ ap (λ (l : List ℕ). drop (8 - u) (digits 8 x ++ l)) none
+    ∙ ap (drop (8 - u)) (append-nil (digits 8 x))
+    ∙ ap (λ (k : ℕ). drop (8 - u) (digits k x)) byte
+    ∙ drop-digits (8 - u) u x)
+    ∙ valueOf-digits-mod u x
 
 module _ (s : List ℕ) (n : ℕ) where
   pub sized-is : sized s n ≡ true → Sized s n

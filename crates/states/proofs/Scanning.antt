@@ -8,7 +8,7 @@ use native.Mathlib.Nat.{lt-of-not-le, add-zero}
 use native.Mathlib.Decide.{decLe}
 use borrow.Author.Tests.{le-leb, lt-leb}
 use lib.ListN.{length, take, drop, length-drop, drop-of-length-le}
-use lib.Seq.{take-all, take-add, take-take, drop-drop, drop-at, length-take-le}
+use lib.Seq.{take-add, take-take, drop-drop, drop-at, length-take-le}
 use Rattle.bits.specs.Bits.{valueOf, bitsOf}
 use Rattle.bits.specs.Take.{fieldBits, takeAt}
 use Rattle.bits.specs.declared.Cursor.{Cursor}
@@ -40,10 +40,6 @@ use Rattle.states.proofs.Driving.{placed, Drives, drives-first, due-is,
 use Rattle.states.proofs.Idling.{idle-ahead, slight-free, fine-passed, slight-judged, slight-not, slight-entered, sound-after}
 use Rattle.format.specs.Fields as fields
 use Rattle.format.specs.Rules as rules
-
--- all bits from n on
-pub rest-is : (s : List ℕ) (n w : ℕ) → 8 * length s ≤ n + w → fieldBits s w n ≡ drop n (bitsOf s)
-rest-is s n w h = take-all w (drop n (bitsOf s)) (rw (length-drop, length-bitsOf) (omega arith))
 
 -- a field cannot be both taken and not
 pub never-short : {A : Type 0} (t : Taken) (v : ℕ) (c : Cursor) → t ≡ Short → t ≡ Field v c → A

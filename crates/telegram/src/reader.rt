@@ -3,7 +3,7 @@
 // A refusal changes no output, so reading checks first, and stores in a second run, which follows the rows alone.
 ghost use mathlib.Core.Bool.{true, false};
 ghost use mathlib.Core.Path.{_≡_};
-ghost use Prim.Native.Nat.{_*_, _≤_};
+ghost use Prim.Native.Nat.{_*_, _≤_, _<_};
 ghost use lib.ListN.{length, take};
 ghost use Rattle.bits.specs.Bits.{valueOf, bitsOf, bytesFor};
 ghost use Rattle.bits.specs.Take.{fieldBits};
@@ -98,17 +98,13 @@ pub fn read(s: &[u8], n: usize, out: &mut [u64]) -> Answer
     a
 }
 
-// Whether the unused low bits of the last byte are 0: as one field, they are the number 0.
+// Whether the unused low bits of the last byte are 0.
 fn clear(s: &[u8], n: usize) -> bool
-    requires { ⌜ (n ≤ 830) × (length (now s) ≡ bytesFor n) ⌝ }
+    requires { ⌜ (0 < n) × (n ≤ 830) × (length (now s) ≡ bytesFor n) ⌝ }
     ensures { λ r. ⌜ r ≡ clear (now (s .entry)) n ⌝ }
 {
-    let all = 8 * s.len();
-    let c = Cursor { at: n };
-    match c.take(s, all, all - n) {
-        Taken::Field(v, _) => v == 0,
-        Taken::Short => false,
-    }
+    let unused = 8 * s.len() - n;
+    s[s.len() - 1] % (1u8 << unused) == 0
 }
 
 // Goes over the fields of the first n bits of s from the bit at on, where so many fields were before: from a packet's edge, or from the header's first field.

@@ -13,7 +13,8 @@ use bits::Cursor;
 use bits::Taken;
 use bits::behind;
 use front::header;
-use lookback::collides_in_bits;
+use lookback::Middle;
+use lookback::collides_from_both;
 use packets::heads::OUTER_HEAD;
 use states::Begun;
 
@@ -38,6 +39,10 @@ pub(crate) fn sweep(s: &[u8], n: usize) -> Swept
         return stopped(0, 0);
     };
     let mut c = Cursor { at: front.at };
+    let mut mid = Middle {
+        at: front.at,
+        late: false,
+    };
     let mut count = FRONT;
     let mut metric = true;
     loop {
@@ -49,9 +54,10 @@ pub(crate) fn sweep(s: &[u8], n: usize) -> Swept
         if p.values == 0 {
             return stopped(c.at, count);
         }
-        if collides_in_bits(s, c.at, behind(w, 0, 8), behind(w, 8, 2)) {
+        if collides_from_both(s, mid.at, c.at, behind(w, 0, 8), behind(w, 8, 2)) {
             return stopped(c.at, count);
         }
+        mid = mid.moved(s);
         c = Cursor { at: c.at + long };
         count += p.values;
         metric = metric & p.metric;

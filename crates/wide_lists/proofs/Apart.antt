@@ -2,7 +2,7 @@
 use mathlib.Core.Path.{_≡_, refl, sym, ap, _∙_}
 use mathlib.Core.Bool.{Bool, true, false}
 use mathlib.Core.List.{List}
-use Prim.Native.Nat.{ℕ, suc, _+_, _-_, _*_, _≤_, _<_}
+use Prim.Native.Nat.{ℕ, zero, suc, _+_, _-_, _*_, _≤_, _<_}
 use native.Mathlib.Omega.{arith}
 use borrow.Author.Tests.{le-leb, lt-leb, eq-eqb, ne-eqb}
 use Rattle.bits.specs.Ahead.{behind, aheadAt}
@@ -18,7 +18,7 @@ use Rattle.hops.proofs.Bounds.{Small, position-small, iter-small}
 use Rattle.hops.specs.declared.Hop.{Hop}
 use Rattle.lists.specs.Lists.{hopSeen, groupAt, othersAt, Bounded, packetList}
 use Rattle.lists.proofs.Turns.{list-there}
-use Rattle.wide_lists.specs.WideLists.{differing, speedWith, speedAt, positionAt, apartAt, speedsAt, positionsAt}
+use Rattle.wide_lists.specs.WideLists.{differing, speedWith, speedOf, speedAt, positionAt, apartAt, speedsAt, positionsAt}
 
 -- ---- NC_DIFF by NC_DIFF
 
@@ -54,22 +54,40 @@ module _ (s : List ℕ) (n : ℕ) where
 
 -- ---- a group of ETCS-27
 
+-- by its number
+pub number-none : (r : ℕ) → r ≡ 0 → speedOf r .bits ≡ 0
+unfolding speedOf
+number-none r e = rw e
+
+pub number-some : (r : ℕ) → (r ≡ 0 → ⊥) → speedOf r ≡ hop (17 + 11 * r) (2 + 2 * r)
+unfolding speedOf
+number-some zero h = absurd (h refl)
+number-some (suc k) h =
+    let a : 28 + 11 * k ≡ 17 + 11 * suc k = omega arith in
+    let b : 4 + 2 * k ≡ 2 + 2 * suc k = omega arith in
+    rw (a, b)
+
+no-bits : (r : ℕ) → speedOf r .bits ≡ 0 → r ≡ 0
+unfolding speedOf
+no-bits zero e = refl
+no-bits (suc k) e = absurd (omega (arith, e))
+
 module _ (s : List ℕ) (n x : ℕ) where
-  pub speed-short : aheadAt s n 28 x ≡ Short → none ≡ speedAt s n x
-  unfolding speedAt
+  pub speed-short : aheadAt s n 28 x ≡ Short → speedOf 0 ≡ speedAt s n x
+  unfolding speedOf speedAt
   speed-short e = rw e
 
   module _ (w : ℕ) (c : Cursor) (seen : aheadAt s n 28 x ≡ Field w c) (k : ℕ) (ek : k ≡ behind w 23 5) where
     there : x + 28 ≡ c .at
     there = sym (sighted s n 28 x w c seen .past)
 
-    pub speed-broken : differing s n k (c .at) ≡ false → none ≡ speedAt s n x
-    unfolding speedAt speedWith
+    pub speed-broken : differing s n k (c .at) ≡ false → speedOf 0 ≡ speedAt s n x
+    unfolding speedOf speedAt speedWith
     speed-broken e = rw (seen, ← ek, there, e)
 
-    pub speed-kept : differing s n k (c .at) ≡ true → hop (28 + 11 * k) (4 + 2 * k) ≡ speedAt s n x
-    unfolding speedAt speedWith
-    speed-kept e = rw (seen, ← ek, there, e)
+    pub speed-kept : differing s n k (c .at) ≡ true → (r : ℕ) → r ≡ suc k → speedOf r ≡ speedAt s n x
+    unfolding speedOf speedAt speedWith
+    speed-kept e r h = rw (h, seen, ← ek, there, e)
 
   -- its bounds
   with-small : (b : Bool) (k : ℕ) → k ≤ 31 → Small (hopIf b (hop (28 + 11 * k) (4 + 2 * k)))
@@ -85,14 +103,26 @@ module _ (s : List ℕ) (n x : ℕ) where
   unfolding speedAt
   speed-small = seen-small (aheadAt s n 28 x)
 
+  -- and by its number
+  few : (r : ℕ) → Small (speedOf r) → r ≤ 32
+  unfolding speedOf
+  few zero i = omega arith
+  few (suc k) i = omega (arith, i .0)
+
+  pub speed-few : (r : ℕ) → speedOf r ≡ speedAt s n x → r ≤ 32
+  speed-few r e = few r (rw e speed-small)
+
   -- one that keeps its rules begins inside
   seen-low : (t : Taken) → aheadAt s n 28 x ≡ t → (hopSeen t (λ w. speedWith s n (behind w 23 5) (x + 28)) .bits ≡ 0 → ⊥) → x ≤ n
   seen-low (Field w c) e b = let i = sighted s n 28 x w c e in omega (arith, i .within)
   seen-low Short e b = absurd (b refl)
 
-  pub speed-low : (speedAt s n x .bits ≡ 0 → ⊥) → x ≤ n
+  begins-low : (speedAt s n x .bits ≡ 0 → ⊥) → x ≤ n
   unfolding speedAt
-  speed-low b = seen-low (aheadAt s n 28 x) refl b
+  begins-low b = seen-low (aheadAt s n 28 x) refl b
+
+  pub speed-low : (r : ℕ) → speedOf r ≡ speedAt s n x → (r ≡ 0 → ⊥) → x ≤ n
+  speed-low r e h = begins-low (λ b. h (no-bits r (ap (λ (g : Hop). g .bits) e ∙ b)))
 
 -- ---- a group of ETCS-79
 

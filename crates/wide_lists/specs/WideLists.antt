@@ -8,7 +8,7 @@ use Rattle.bits.specs.Take.{takeAt}
 use Rattle.bits.specs.declared.Cursor.{Cursor}
 use Rattle.bits.specs.declared.Taken.{Taken}
 use Rattle.bits.specs.declared.Taken.the-variants.{Field, Short}
-use Rattle.hops.specs.Hops.{hop, hopIf, positionIn}
+use Rattle.hops.specs.Hops.{hop, none, hopIf, positionIn}
 use Rattle.hops.specs.declared.Hop.{Hop}
 use Rattle.lists.specs.Lists.{ifTaken, hopSeen, groupAt, othersAt, packetList}
 
@@ -26,6 +26,11 @@ differing s n (suc k) x = whereTaken (takeAt s n 4 x) (λ v y. leb v 2 && differ
 -- with so many of them, the first at the bit x
 unfoldable pub speedWith : List ℕ → ℕ → ℕ → ℕ → Hop
 speedWith s n k x = hopIf (differing s n k x) (hop (28 + 11 * k) (4 + 2 * k))
+
+-- the group that a number stands for: one more than it has NC_DIFF, and 0 for none
+unfoldable pub speedOf : ℕ → Hop
+speedOf zero = none
+speedOf (suc k) = hop (28 + 11 * k) (4 + 2 * k)
 
 unfoldable pub speedAt : List ℕ → ℕ → ℕ → Hop
 speedAt s n x = hopSeen (aheadAt s n 28 x) (λ w. speedWith s n (behind w 23 5) (x + 28))

@@ -2,7 +2,7 @@
 ghost use mathlib.Core.Path.{_≡_};
 ghost use Prim.Native.Nat.{_≤_};
 ghost use Rattle.lists.specs.Lists.{othersAt, Bounded};
-ghost use Rattle.wide_lists.specs.WideLists.{differing, speedAt, positionAt, speedsAt, positionsAt};
+ghost use Rattle.wide_lists.specs.WideLists.{differing, speedOf, speedAt, positionAt, speedsAt, positionsAt};
 use bits::Cursor;
 use bits::Skipped;
 use bits::Taken;
@@ -24,16 +24,16 @@ pub fn speeds(s: &[u8], n: usize, start: Cursor, end: usize) -> usize
         return 0;
     };
     let h = speed(s, n, first);
-    if h.bits == 0 {
+    if h == 0 {
         return 0;
     }
     let iter = Cursor {
-        at: first.at + h.bits,
+        at: first.at + (17 + 11 * h),
     };
     let Taken::Field(times, next) = iter.take(s, n, N_ITER) else {
         return 0;
     };
-    more_speeds(s, n, next, end, times, 4 + h.values + 1)
+    more_speeds(s, n, next, end, times, 4 + (2 + 2 * h) + 1)
 }
 
 // So many groups of it from the cursor on, with so many values before them.
@@ -46,11 +46,13 @@ fn more_speeds(s: &[u8], n: usize, first: Cursor, end: usize, times: u64, before
     let mut values = before;
     while 0 < left {
         let h = speed(s, n, c);
-        if h.bits == 0 {
+        if h == 0 {
             return 0;
         }
-        c = Cursor { at: c.at + h.bits };
-        values += h.values;
+        c = Cursor {
+            at: c.at + (17 + 11 * h),
+        };
+        values += 2 + 2 * h;
         left -= 1;
     }
     if c.at == end {
@@ -59,23 +61,19 @@ fn more_speeds(s: &[u8], n: usize, first: Cursor, end: usize, times: u64, before
     0
 }
 
-// The group of ETCS-27 that begins here.
-fn speed(s: &[u8], n: usize, c: Cursor) -> Hop
+// The group of ETCS-27 that begins here, by a number, and not as a Hop, which would be handed back in memory: one more than it has NC_DIFF, and 0 for none.
+fn speed(s: &[u8], n: usize, c: Cursor) -> usize
     requires { ⌜ n ≤ 830 ⌝ }
-    ensures { λ r. ⌜ r ≡ speedAt (now (s .entry)) n (c .at) ⌝ }
+    ensures { λ r. ⌜ speedOf r ≡ speedAt (now (s .entry)) n (c .at) ⌝ }
 {
     let Taken::Field(w, inner) = c.ahead(s, n, 28) else {
-        return none();
+        return 0;
     };
     let times = behind(w, 23, 5);
     if !differ(s, n, inner, times) {
-        return none();
+        return 0;
     }
-    let k = times as usize;
-    Hop {
-        bits: 28 + 11 * k,
-        values: 4 + 2 * k,
-    }
+    times as usize + 1
 }
 
 // Whether so many NC_DIFF keep their rule, the first of which stands here.

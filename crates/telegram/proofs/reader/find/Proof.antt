@@ -35,7 +35,7 @@ clear-requires : tie.Need-clear-requires
 clear-requires c κs =
     let a = c .before .before .before .args in
     let z = sized-is (now (a .s)) (a .n) (sym (c .before .sized .ensures) ∙ not-false _ (c .if1 .left)) in
-    (z .most, z .bytes)
+    (omega (arith, z .least), z .most, z .bytes)
 
 refuse-requires-2 : tie.Need-refuse-requires-2
 refuse-requires-2 c κs = search needs

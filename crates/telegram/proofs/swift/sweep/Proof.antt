@@ -16,10 +16,10 @@ use Rattle.telegram.proofs.swift.sweep.Statement.{statement}
 use Rattle.telegram.proofs.swift.sweep.Tie as tie
 
 abbrev Inv-loop : tie.InvT-loop
-Inv-loop s n c₀ count₀ metric₀ c count metric = Edge s n (c .at) count × (metric ≡ true → Hopped s 50 (c .at))
+Inv-loop s n c₀ mid₀ count₀ metric₀ c mid count metric = Edge s n (c .at) count × (metric ≡ true → Hopped s 50 (c .at))
 
 abbrev μ-loop : tie.MeasureT-loop
-μ-loop s n c₀ count₀ metric₀ c count metric = n - c .at
+μ-loop s n c₀ mid₀ count₀ metric₀ c mid count metric = n - c .at
 
 header-requires : tie.Need-header-requires Inv-loop μ-loop
 header-requires c κs = search needs
@@ -75,8 +75,8 @@ behind-requires-2 c κs = tt
 behind-requires-3 : tie.Need-behind-requires-3 Inv-loop μ-loop
 behind-requires-3 c κs = tt
 
-collides-in-bits-requires : tie.Need-collides-in-bits-requires Inv-loop μ-loop
-collides-in-bits-requires c κs = search needs
+collides-from-both-requires : tie.Need-collides-from-both-requires Inv-loop μ-loop
+collides-from-both-requires c κs = search needs
 
 stopped-requires-3 : tie.Need-stopped-requires-3 Inv-loop μ-loop
 stopped-requires-3 c κs = tt
@@ -104,7 +104,7 @@ module _ (c : tie.Else2 Inv-loop μ-loop) where
   following : Edge (now (c .before .before .before .before .before .before .before .before .before .before .before .before .before .before .before .before .before .before .args .s)) (c .before .before .before .before .before .before .before .before .before .before .before .before .before .before .before .before .before .before .args .n) (c .before .before .before .before .before .before .before .before .before .before .before .before .loop .c .at + long) (c .before .before .before .before .before .before .before .before .before .before .before .before .loop .count + c .before .before .before .before .before .before .packet .result .values)
   following =
       edge-on (c .before .before .before .before .before .before .before .before .before .before .before .before .loop .inv .0) (there .ahead) (kept .0) (c .before .before .before .before .before .before .before .behind .ensures) (kept .1)
-      (sym (c .if2 .left) ∙ rw (c .before .before .before .behind2 .ensures, c .before .before .behind3 .ensures) at (c .before .collides-in-bits .ensures))
+      (sym (c .if2 .left) ∙ rw (c .before .before .before .behind2 .ensures, c .before .before .behind3 .ensures) at (c .before .collides-from-both .ensures))
 
   -- in metres, if it is and those before it are
   marked : c .before .before .before .before .before .before .before .before .before .before .before .before .loop .metric ≡ true → c .before .before .before .before .before .before .packet .result .metric ≡ true → Hopped (now (c .before .before .before .before .before .before .before .before .before .before .before .before .before .before .before .before .before .before .args .s)) 50 (c .before .before .before .before .before .before .before .before .before .before .before .before .loop .c .at + long)
@@ -115,19 +115,22 @@ module _ (c : tie.Else2 Inv-loop μ-loop) where
       let l = there .room in
       hopped-on (c .before .before .before .before .before .before .before .before .before .before .before .before .loop .inv .1 before) (there .ahead) (omega arith) (c .before .before .before .before .before .before .before .behind .ensures) m
 
-add-t16 : tie.Need-add-t16 Inv-loop μ-loop
-add-t16 c = omega (arith, edge-within (following (c .before)), c .before .before .before .before .before .before .before .before .before .before .before .before .before .before .before .before .before .before .before .pre .0)
+moved-requires : tie.Need-moved-requires Inv-loop μ-loop
+moved-requires c κs = search needs
+
+add-t17 : tie.Need-add-t17 Inv-loop μ-loop
+add-t17 c = omega (arith, edge-within (following (c .before .before)), c .before .before .before .before .before .before .before .before .before .before .before .before .before .before .before .before .before .before .before .before .pre .0)
 
 add-count : tie.Need-add-count Inv-loop μ-loop
-add-count c = omega (arith, edge-few (following (c .before .before)), edge-within (following (c .before .before)), c .before .before .before .before .before .before .before .before .before .before .before .before .before .before .before .before .before .before .before .before .pre .0)
+add-count c = omega (arith, edge-few (following (c .before .before .before)), edge-within (following (c .before .before .before)), c .before .before .before .before .before .before .before .before .before .before .before .before .before .before .before .before .before .before .before .before .before .pre .0)
 
 loop-less : tie.Need-loop-less Inv-loop μ-loop
 loop-less c =
-    let k = kept (c .before .before .before) in
+    let k = kept (c .before .before .before .before) in
     omega (arith, kept-long (k .0), k .1)
 
 loop-again : tie.Need-loop-again Inv-loop μ-loop
-loop-again c = (following (c .before .before .before), λ h. let m = both _ _ h in marked (c .before .before .before) (m .0) (m .1))
+loop-again c = (following (c .before .before .before .before), λ h. let m = both _ _ h in marked (c .before .before .before .before) (m .0) (m .1))
 
 pub sweep-spec : {M : Type 1} → statement M
 sweep-spec =
@@ -152,10 +155,11 @@ sweep-spec =
     returns-3
     behind-requires-2
     behind-requires-3
-    collides-in-bits-requires
+    collides-from-both-requires
     stopped-requires-3
     returns-4
-    add-t16
+    moved-requires
+    add-t17
     add-count
     loop-less
     loop-again)

@@ -1,12 +1,12 @@
--- `lookback::collides_slowly` meets its contract: no packet that was passed collides with this one, and those from the cursor on are
+-- `slow_look::collides_slowly` meets its contract: no packet that was passed collides with this one, and those from the cursor on are
 -- left. The measure is how many bits are left. Assumes nothing.
 use mathlib.Core.Path.{sym, _∙_}
 use Prim.Native.Nat.{_-_}
 use borrow.Author.Needs.{needs}
 use Rattle.states.proofs.Colliding.{told, none-told}
 use Rattle.states.proofs.Hopping.{Hopping, hopping-first, hops-end, hops-met, hops-past, hops-on, hops-less}
-use Rattle.lookback.proofs.collides_slowly.Statement.{statement}
-use Rattle.lookback.proofs.collides_slowly.Tie as tie
+use Rattle.slow_look.proofs.collides_slowly.Statement.{statement}
+use Rattle.slow_look.proofs.collides_slowly.Tie as tie
 
 abbrev Inv-loop : tie.InvT-loop
 Inv-loop s stop id dir c₀ c = Hopping s stop id dir (c .at)

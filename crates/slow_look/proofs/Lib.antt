@@ -1,0 +1,2 @@
+-- One answer to the promise.
+pub mod Once
