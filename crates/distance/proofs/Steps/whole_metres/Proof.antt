@@ -19,7 +19,7 @@ mul-if1 c = search needs
 returns : tie.Need-returns
 returns c =
     let a = c .before .before .before .before .args in
-    not-whole (a .w) (inDecimetres (a .q) (a .self .0)) (rw (c .before .before .metres .ensures, c .before .before .before .decimetres .ensures) at (c .if1 .taken))
+    not-whole (a .w) (inDecimetres (a .q) (a .self .0)) (λ e. omega (arith, c .if1 .taken, c .before .before .metres .ensures, c .before .before .before .decimetres .ensures))
 
 fits-requires : tie.Need-fits-requires
 fits-requires c κs = search needs
@@ -28,7 +28,7 @@ returns-2 : tie.Need-returns-2
 returns-2 c =
     let a = c .before .before .before .before .before .args in
     rw (c .before .before .before .metres .ensures, c .before .before .before .before .decimetres .ensures) at (c .fits2 .ensures)
-    ∙ are-whole (a .w) (inDecimetres (a .q) (a .self .0)) (rw (c .before .before .before .metres .ensures, c .before .before .before .before .decimetres .ensures) at (c .before .if1 .left))
+    ∙ are-whole (a .w) (inDecimetres (a .q) (a .self .0)) (omega (arith, c .before .if1 .left, c .before .before .before .metres .ensures, c .before .before .before .before .decimetres .ensures))
 
 pub whole-metres-spec : {M : Type 1} → statement M
 whole-metres-spec =
