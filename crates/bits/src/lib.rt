@@ -3,6 +3,8 @@
 // `Cursor::take` reads a field, by way of a window of four bytes where one holds the field, and else a byte at a time; `Cursor::skip` goes
 // past bits unread; `Cursor::ahead` takes what lies ahead in one number, in which `behind` finds fields. No public function asks anything of its caller: every position, width, count and slice length has its answer, and
 // the definitions in specs/ say which. They define the writing of a field too.
+#![tactic(auto)]
+
 ghost use Rattle.std.specs.Prelude.{◌≡◌, ◌^◌, ◌+◌, ◌*◌, ◌≤◌, ◌<◌, length};
 ghost use Rattle.bits.specs.Bits.{value_of};
 ghost use Rattle.bits.specs.Ahead.{in_sight, ahead_at, seen_at};

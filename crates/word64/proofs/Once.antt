@@ -3,6 +3,7 @@ use mathlib.Core.Path.{◌≡◌, refl, sym, ◌∙◌}
 use contract.Lifetimes.{Lfts}
 use denote.Triple.Clauses.{Ended, Lasts, AtExit, at_exit}
 use denote.Triple.Entry.{Args, Res}
+use Rattle.word64.specs.contracts as promises
 use Rattle.word64.proofs.fits
 use Rattle.word64.proofs.bytes_for
 use Rattle.word64.proofs.wide
@@ -33,23 +34,23 @@ OneOutcomeGiven f Post outside =
     → (p : Post κs args r (at_exit f κs args u)) (q : Post κs args t (at_exit f κs args v))
     → outside κs args r (at_exit f κs args u) p ≡ outside κs args t (at_exit f κs args v) q → (r ≡ t) × (u ≡ v)
 
-pub fits_once : OneOutcome fits.ended fits.Reads.Post
+pub fits_once : OneOutcome promises.fits.ended fits.Reads.Post
 fits_once κs args r t u v p q = (p ∙ sym q, refl)
 
-pub bytes_for_once : OneOutcome bytes_for.ended bytes_for.Reads.Post
+pub bytes_for_once : OneOutcome promises.bytes_for.ended bytes_for.Reads.Post
 bytes_for_once κs args r t u v p q = (p ∙ sym q, refl)
 
-pub wide_once : OneOutcome wide.ended wide.Reads.Post
+pub wide_once : OneOutcome promises.wide.ended wide.Reads.Post
 wide_once κs args r t u v p q = (p ∙ sym q, refl)
 
-pub window_once : OneOutcome window.ended window.Reads.Post
+pub window_once : OneOutcome promises.window.ended window.Reads.Post
 window_once κs args r t u v p q = (p ∙ sym q, refl)
 
-pub low_bits_once : OneOutcome low_bits.ended low_bits.Reads.Post
+pub low_bits_once : OneOutcome promises.low_bits.ended low_bits.Reads.Post
 low_bits_once κs args r t u v p q = (p ∙ sym q, refl)
 
-pub lower_once : OneOutcome lower.ended lower.Reads.Post
+pub lower_once : OneOutcome promises.lower.ended lower.Reads.Post
 lower_once κs args r t u v p q = (p ∙ sym q, refl)
 
-pub behind_once : OneOutcome behind.ended behind.Reads.Post
+pub behind_once : OneOutcome promises.behind.ended behind.Reads.Post
 behind_once κs args r t u v p q = (p ∙ sym q, refl)

@@ -1,4 +1,6 @@
 // Words of 64 bits: how many bits and bytes a number takes, and its parts. Every function answers every input.
+#![tactic(auto)]
+
 ghost use Rattle.std.specs.Prelude.{◌≡◌, ◌||◌, ◌+◌, ◌-◌, ◌*◌, ◌/◌, ◌%◌, ◌^◌, min, ltb};
 
 // Whether a value fits into a field of width bits.

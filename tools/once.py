@@ -1,0 +1,26 @@
+#!/usr/bin/env python3
+"""Names the contracts of a crate's functions where its Once.antt asks for their signatures: they stand in the specs library today.
+
+usage: python3 tools/once.py CRATE ..
+"""
+import glob
+import re
+import sys
+
+for crate in sys.argv[1:]:
+    for path in glob.glob(f"crates/{crate}/proofs/**/*.antt", recursive=True):
+        with open(path, encoding="utf-8") as f:
+            text = f.read()
+        new = text
+        aliases = {}
+        for line, other, module in re.findall(r"(?m)^(use Rattle\.(\w+)\.proofs\.([a-zA-Z_.]+))$", text):
+            name = module.split(".")[-1]
+            if re.search(r"(?<![\w.'-])%s\.(ended|signature)\b" % re.escape(name), new):
+                alias = "promises" if other == crate else f"{other}_promises"
+                aliases[alias] = f"use Rattle.{other}.specs.contracts as {alias}"
+                new = re.sub(r"(?<![\w.'-])%s\.(ended|signature)\b" % re.escape(name), rf"{alias}.{module}.\1", new)
+        if new != text:
+            at = [m.start() for m in re.finditer(r"(?m)^use Rattle\.", new)][0]
+            new = new[:at] + "".join(l + "\n" for l in aliases.values()) + new[at:]
+            with open(path, "w", encoding="utf-8") as f:
+                f.write(new)
