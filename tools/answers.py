@@ -65,6 +65,8 @@ def plain(name):
     return name.replace("_", "-")
 
 
+# words of Rattle's that had a dash
+MADE = {w: w.replace("-", "_") for w in "well-formed view-is loan-name yielded-by len-below len-at-least element-fits array-long items-fit".split()}
 # what an older goal of a loop was called
 LOOP = {"holds": "init", "less": "smaller", "again": "preserved"}
 
@@ -74,34 +76,56 @@ class Function:
 
     def __init__(self, of):
         self.needs = {plain(old): new for old, new in of["needs"]}
-        self.steps, self.typed = {}, {}
-        for place in of["places"]:
+        self.steps, self.typed, self.arms, self.callees = {}, {}, {}, {}
+        for place, arm in zip(of["places"], of["arms"]):
             old, new = place[2]
             if old:
                 self.steps[plain(old)] = new
-        for each in of.get("typed", []):
-            for name, step in each:
-                self.typed.setdefault(plain(step), name)
+                if place[3]:
+                    self.callees[plain(old)] = of["params"].get(place[3], [])
+            if arm:
+                for field, step, path in arm[2]:
+                    if step:
+                        self.arms.setdefault(plain(step), []).append((path, arm[0], field))
+        places = [p[0] for p in of["places"]]
+        by_place = dict(zip(places, of.get("typed", [])))
+        self.typed_at = {}
+        for (old, _), (place, _) in zip(of["needs"], of["asked_at"]):
+            self.typed_at[plain(old)] = {plain(step): name for name, step in by_place.get(place, [])}
         self.loops = {plain(names[0]): (names[1], of_loop, changed) for (names, of_loop), changed in zip(of["loops"], of["changed"])}
         self.records = {plain(old): new for old, new in zip([p[0] for p in of["places"]], of["places_by_name"])}
 
     def need(self, old):
+        """Today's name of a goal; what types say where it stands is what paths then go by."""
         old = plain(old)
-        if old in self.needs:
-            return self.needs[old]
         found = re.match(r"(.*)-(holds|less|again)((?:-\d+)?)$", old)
-        if found:
-            return self.needs.get(f"{found[1]}-{LOOP[found[2]]}{found[3]}")
-        return None
+        if old not in self.needs and found:
+            old = f"{found[1]}-{LOOP[found[2]]}{found[3]}"
+        self.typed = self.typed_at.get(old, {})
+        return self.needs.get(old)
 
     def path(self, parts):
         """The parts of a path off c, by today's names."""
         if not parts:
             return parts
+        if parts[0] in MADE:
+            return [MADE[parts[0]]] + parts[1:]
         step = plain(parts[0])
         if step in self.typed and parts[1:2] and parts[1] in ("given", "fits", "known"):
             return ["type_inv", self.typed[step]] + parts[2:]
-        return [self.steps.get(step, parts[0])] + parts[1:]
+        rest = [MADE.get(p, p) for p in parts[1:]]
+        for path, arm, field in sorted(self.arms.get(step, []), key=lambda it: -len(it[0])):
+            if rest[: len(path)] == path and (path or not set(rest[:1]) & {"ensures", "result"}):
+                return [arm, field] + rest[len(path) :]
+        if step not in self.steps and re.fullmatch(r".*\d", step) and re.sub(r"\d+$", "", step) in self.steps:
+            step = re.sub(r"\d+$", "", step)
+        if rest[:1] == ["new"] and self.callees.get(step):
+            at = 1
+            while rest[at : at + 1] == ["1"]:
+                at += 1
+            if rest[at : at + 1] == ["0"] and at - 1 < len(self.callees[step]):
+                rest = ["new", self.callees[step][at - 1]] + rest[at + 1 :]
+        return [self.steps.get(step, parts[0])] + rest
 
 
 def turn_paths(body, fn):
@@ -116,7 +140,9 @@ def turn_paths(body, fn):
         root, rest = found[1], found[2]
         if root not in roots:
             return found[0]
-        parts = [p for p in rest.split(".")[1:] if p != "before"]
+        parts = rest.split(".")[1:]
+        while parts[:1] == ["before"]:
+            del parts[0]
         return ".".join([root] + fn.path(parts))
 
     return re.sub(r"(?<![\w.'-])([a-z]\w*)((?:\.[^\s(){}.;,@\"\[\]\\]+)+)", path, body)
@@ -172,7 +198,12 @@ class Helpers:
     def stated(self, body):
         """The body with what it uses stated before it."""
         used, todo = [], [body]
-        roots = r"(?:\((?:c|\w+)(?:\.before)*\)|c(?:\.before)*(?![\w.'-]))"
+        names = {"c"}
+        for found in re.finditer(r"(?:let |; )(\w+) = (\w+)(?:\.before)*(?= in\b|\n|;)", body):
+            if found[2] in names:
+                names.add(found[1])
+        either = "|".join(names)
+        roots = r"(?:\((?:%s)(?:\.before)*\)|(?:%s)(?:\.before)*(?![\w.'-]))" % (either, either)
         while todo:
             text = todo.pop()
             for name in self.of:
@@ -250,7 +281,8 @@ def answer(crate, module, fn, kind, block, answers, invariants, helpers):
     if len(binders) > 1 and binders[1] == "κs":
         del binders[1]
     body = turn_paths(helpers.stated(body), fn)
-    body = re.sub(r"not-(?:true|false) _ (\()?(c\.[\w-]*-not-[^\s()]*\.(?:true|false))(?(1)\))", r"\2", body)
+    body = re.sub(r"sym c\.([iI]n[-_][\w-]+)\.is ∙ c\.[\w-]+\.ensures", r"c.\1.ensures", body)
+    body = re.sub(r"not-(?:true|false) _ (\()?(\w+\.[\w-]*-not-[^\s()]*\.(?:true|false))(?(1)\))", r"\2", body)
     if not unfolds and PLAIN.fullmatch(body.strip()):
         return
     answers.append((lead, new, unfolds, binders, body))
@@ -301,9 +333,9 @@ def needed(head, text):
             shown = name.split(" as ")[-1].strip()
             pieces = [p for p in shown.split("◌") if p]
             if "◌" in shown:
-                if pieces and all(p in ops for p in pieces) or not pieces:
+                if shown in words or pieces and all(p in ops for p in pieces) or not pieces:
                     keep.append(name)
-            elif shown in words:
+            elif shown in words or shown in ops:
                 keep.append(name)
         if keep:
             out.append(f"use {found[1]}.{{{', '.join(keep)}}}")

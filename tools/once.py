@@ -15,10 +15,11 @@ for crate in sys.argv[1:]:
         aliases = {}
         for line, other, module in re.findall(r"(?m)^(use Rattle\.(\w+)\.proofs\.([a-zA-Z_.]+))$", text):
             name = module.split(".")[-1]
-            if re.search(r"(?<![\w.'-])%s\.(ended|signature)\b" % re.escape(name), new):
+            cited = r"(?<![\w.'-])%s((?:\.[\w+]+)*)\.(ended|signature)\b" % re.escape(name)
+            if re.search(cited, new):
                 alias = "promises" if other == crate else f"{other}_promises"
                 aliases[alias] = f"use Rattle.{other}.specs.contracts as {alias}"
-                new = re.sub(r"(?<![\w.'-])%s\.(ended|signature)\b" % re.escape(name), rf"{alias}.{module}.\1", new)
+                new = re.sub(cited, rf"{alias}.{module}\1.\2", new)
         if new != text:
             at = [m.start() for m in re.finditer(r"(?m)^use Rattle\.", new)][0]
             new = new[:at] + "".join(l + "\n" for l in aliases.values()) + new[at:]

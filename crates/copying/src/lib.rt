@@ -1,4 +1,6 @@
 // Bytes copied over the front of others, eight at a time.
+#![tactic(auto)]
+
 ghost use Rattle.std.specs.Prelude.{◌++◌, ◌≡◌, ◌+◌, ◌≤◌, ◌<◌, length, take, drop};
 ghost use Rattle.copying.specs.Copies.{copied_to};
 

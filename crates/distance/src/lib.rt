@@ -1,5 +1,7 @@
 // Distances: steps of a scale and decimetres are two quantities. Their numbers are private here, so that one is added to the other
 // nowhere else; they are converted by functions that know the packet's Q_SCALE.
+#![tactic(auto)]
+
 ghost use Rattle.std.specs.Prelude.{◌≡◌, ◌<◌};
 ghost use Rattle.distance.specs.Steps.{step, steps};
 ghost use Rattle.distance.specs.Distance.{number_of, scaled_by, in_decimetres, in_steps, whole_steps, whole_metres};
@@ -17,7 +19,7 @@ pub enum Scale {
 pub struct Steps(u32);
 
 // So many decimetres. No function makes them of a number or gives their number: they come of steps at a scale, and go back to steps.
-#[derive(Drop)]
+#[derive(Clone, Copy)]
 pub struct Decimetres(u64);
 
 // The scale that a Q_SCALE is, if it is one.

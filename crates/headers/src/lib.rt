@@ -1,6 +1,8 @@
 // Numbers in telegrams that lie one behind the other in one buffer, each from a byte of its own.
 //
 // No function asks anything of its caller: where the bytes do not hold what is looked for, the definitions in specs/ say what it finds.
+#![tactic(auto)]
+
 ghost use Rattle.std.specs.Prelude.{◌≡◌, ◌+◌, ◌*◌, ◌≤◌, min, leb, length, take, drop};
 ghost use Rattle.bits.specs.Bits.{bits_of, same};
 ghost use Rattle.headers.specs.Headers.{number_at, front_of, belongs_to, same_bodies, counters_match, latest_of};

@@ -1,5 +1,6 @@
 -- Each promise of this crate is met by one answer alone. Assumes nothing.
 use mathlib.Core.Path.{refl, sym, ◌∙◌}
+use Rattle.hops.specs.contracts as promises
 use Rattle.bits.proofs.Once.{OneOutcome}
 use Rattle.hops.proofs.none
 use Rattle.hops.proofs.link
@@ -10,26 +11,26 @@ use Rattle.hops.proofs.condition
 use Rattle.hops.proofs.position
 use Rattle.hops.proofs.circuit
 
-pub none_once : OneOutcome none.ended none.Reads.Post
+pub none_once : OneOutcome promises.none.ended none.Reads.Post
 none_once κs args r t u v p q = (p ∙ sym q, refl)
 
-pub link_once : OneOutcome link.ended link.Reads.Post
+pub link_once : OneOutcome promises.link.ended link.Reads.Post
 link_once κs args r t u v p q = (p ∙ sym q, refl)
 
-pub level_once : OneOutcome level.ended level.Reads.Post
+pub level_once : OneOutcome promises.level.ended level.Reads.Post
 level_once κs args r t u v p q = (p ∙ sym q, refl)
 
-pub transition_once : OneOutcome transition.ended transition.Reads.Post
+pub transition_once : OneOutcome promises.transition.ended transition.Reads.Post
 transition_once κs args r t u v p q = (p ∙ sym q, refl)
 
-pub choice_once : OneOutcome choice.ended choice.Reads.Post
+pub choice_once : OneOutcome promises.choice.ended choice.Reads.Post
 choice_once κs args r t u v p q = (p ∙ sym q, refl)
 
-pub condition_once : OneOutcome condition.ended condition.Reads.Post
+pub condition_once : OneOutcome promises.condition.ended condition.Reads.Post
 condition_once κs args r t u v p q = (p ∙ sym q, refl)
 
-pub position_once : OneOutcome position.ended position.Reads.Post
+pub position_once : OneOutcome promises.position.ended position.Reads.Post
 position_once κs args r t u v p q = (p ∙ sym q, refl)
 
-pub circuit_once : OneOutcome circuit.ended circuit.Reads.Post
+pub circuit_once : OneOutcome promises.circuit.ended circuit.Reads.Post
 circuit_once κs args r t u v p q = (p ∙ sym q, refl)

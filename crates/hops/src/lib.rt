@@ -1,6 +1,8 @@
 // One group of a list, by the window at its first bit: how many bits and how many values it has.
 //
 // docs/RULES.md, "Packets", has the fields. Which rules a group breaks is not told: one that breaks a rule has no bit here.
+#![tactic(auto)]
+
 ghost use Rattle.std.specs.Prelude.{◌≡◌, ◌≤◌};
 ghost use Rattle.hops.specs.Hops.{hop, none, link_in, level_in, leveled, condition_in, position_in, circuit_in};
 

@@ -1,4 +1,6 @@
 // Lines of the characters 0 and 1, packed into the bytes of the bit string that they write; and the character of a bit.
+#![tactic(auto)]
+
 ghost use Rattle.std.specs.Prelude.{◌≡◌, ◌+◌, ◌*◌, ◌≤◌, length, drop, get_or};
 ghost use Rattle.bits.specs.Bits.{value_of, filled, bytes_for};
 ghost use Rattle.bits.specs.Take.{taken_at};

@@ -1,4 +1,6 @@
 // Numbers read from text. Every public function answers every input.
+#![tactic(auto)]
+
 ghost use Rattle.std.specs.Prelude.{◌≡◌, true, drop};
 ghost use Rattle.pieces.specs.Numbers.{read_at, is_digit, bounded, digits_from, decimal_in, is_place, place_of, sixteen_in};
 

@@ -1,4 +1,6 @@
 // Pieces of text, compared and put, and the answer of what reads a number in it. Every function answers every input.
+#![tactic(auto)]
+
 ghost use Rattle.std.specs.Prelude.{◌≡◌, drop};
 ghost use Rattle.pieces.specs.Pieces.{begins, Appended};
 

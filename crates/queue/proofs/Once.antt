@@ -3,6 +3,7 @@ use mathlib.Core.Path.{◌≡◌, refl, sym, ap, ap₂, ◌∙◌}
 use mathlib.Core.Bool.{Bool}
 use mathlib.Core.List.{List}
 use Prim.Native.Nat.{ℕ}
+use Rattle.queue.specs.contracts as promises
 use Rattle.word64.proofs.Once.{OneOutcomeGiven}
 use Rattle.queue.specs.Waiting.{Waits, Joins, lost_by}
 use Rattle.queue.specs.declared.Queue.{Queue}
@@ -28,13 +29,13 @@ module _ {text : List ℕ} {q : Queue} {before : List ℕ} {r t : Queue} {after 
 
 -- ---- the functions
 
-pub put_once : OneOutcomeGiven put.ended put.Reads.Post (λ κs args r s p. p.failed)
+pub put_once : OneOutcomeGiven promises.put.ended put.Reads.Post (λ κs args r s p. p.failed)
 put_once κs args r t u v p q e = (same_queue p q e, ap (λ (out : List ℕ). (out, u.1)) (same_array p q))
 
-pub say_once : OneOutcomeGiven say.ended say.Reads.Post (λ κs args r s p. p.failed)
+pub say_once : OneOutcomeGiven promises.say.ended say.Reads.Post (λ κs args r s p. p.failed)
 say_once κs args r t u v p q e = (same_queue p q e, ap (λ (out : List ℕ). (out, u.1)) (same_array p q))
 
-pub flush_once : OneOutcomeGiven flush.ended flush.Reads.Post (λ κs args r s p. p.failed)
+pub flush_once : OneOutcomeGiven promises.flush.ended flush.Reads.Post (λ κs args r s p. p.failed)
 flush_once κs args r t u v p q e =
     (ap₂ (λ (n : ℕ) (l : Bool). record { waiting = n; lost = l }) (p.waits ∙ sym q.waits) lost, refl)
   where

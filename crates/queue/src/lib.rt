@@ -1,5 +1,7 @@
 // Text that waits in a lent array and is written to standard output when that is full. Every function answers every queue and every
 // array.
+#![tactic(auto)]
+
 ghost use Rattle.std.specs.Prelude.{◌≡◌, true, [], ◌∷◌, ◌+◌, ◌≤◌, length};
 ghost use Rattle.queue.specs.Waiting.{Joins, Flushed};
 

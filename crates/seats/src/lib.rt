@@ -1,6 +1,8 @@
 // Where the telegrams of a group stand in their buffer: each is found by its N_PIG, by adding up the bytes of those that lie before it.
 //
 // No function asks anything of its caller: a list of any length, with any n, over any bytes has its answer.
+#![tactic(auto)]
+
 ghost use Rattle.std.specs.Prelude.{◌≡◌, cond, ◌+◌, ◌-◌, min, drop};
 ghost use Rattle.bits.specs.Bits.{bytes_for};
 ghost use Rattle.headers.specs.Headers.{number_at};

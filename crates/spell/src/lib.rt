@@ -1,4 +1,6 @@
 // Numbers put as text: decimal, and as sixteen places of four bits. Every public function answers every input.
+#![tactic(auto)]
+
 ghost use Rattle.std.specs.Prelude.{◌≡◌, ◌≤◌, length, drop};
 ghost use Rattle.pieces.specs.Numbers.{decimal, letter, sixteen};
 ghost use Rattle.pieces.specs.Pieces.{Appended};

@@ -1,5 +1,7 @@
 // A field of bits written into bytes, the highest bit of byte 0 first: over its part of a window of four bytes where one holds the field, and
 // else a byte at a time.
+#![tactic(auto)]
+
 ghost use Rattle.std.specs.Prelude.{◌≡◌, ◌/◌, ◌%◌, ◌^◌, ◌+◌, ◌*◌, ◌≤◌, ◌<◌, length};
 ghost use Rattle.bits.specs.Bits.{bits_of};
 ghost use Rattle.bits.specs.Put.{over, laid_at, Put};

@@ -2,9 +2,10 @@
 use mathlib.Core.Path.{sym, ap, ◌∙◌}
 use mathlib.Core.List.{List}
 use Prim.Native.Nat.{ℕ}
+use Rattle.value_list.specs.contracts as promises
 use Rattle.bits.proofs.Once.{OneOutcome}
 use Rattle.value_list.proofs.values_in
 
-pub values_in_once : OneOutcome values_in.ended values_in.Reads.Post
+pub values_in_once : OneOutcome promises.values_in.ended values_in.Reads.Post
 values_in_once κs args r t u v p q =
     (p.answers ∙ sym q.answers, ap (λ (values : List ℕ). (u.0, (values, u.1.1))) (p.contents ∙ sym q.contents))

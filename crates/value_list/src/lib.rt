@@ -1,4 +1,6 @@
 // Values that a text writes, each as a space and decimal digits.
+#![tactic(auto)]
+
 ghost use Rattle.std.specs.Prelude.{◌≡◌, drop};
 ghost use Rattle.pieces.specs.Numbers.{read_at};
 ghost use Rattle.value_list.specs.Values.{value_in, values_in, count_of, Taken, Stored};

@@ -1,4 +1,6 @@
 // Words of a line: where one ends, and the number that one writes. Every public function answers every input.
+#![tactic(auto)]
+
 ghost use Rattle.std.specs.Prelude.{◌≡◌, true, ◌+◌, ◌≤◌, length, drop};
 ghost use Rattle.words.specs.Words.{up_to, word_end, number_in};
 

@@ -1,0 +1,12 @@
+-- `parse::digits_at` meets its contract. The loop's invariant, `Reading`: what is read from at on is what is read from i on behind
+-- the digits of v. The measure is how much of the text is left. Assumes nothing.
+use Prim.Native.Nat.{◌-◌}
+use lib.ListN.{length}
+use Rattle.pieces.proofs.Loops.{Reading}
+use Rattle.parse.proofs.digits_at.Given as goal
+
+abbrev pub invariant-loop-i : goal.invariant-loop-i
+invariant-loop-i l = Reading l.text l.at l.v l.i
+
+abbrev pub decreases-loop-i : goal.decreases-loop-i
+decreases-loop-i l = length l.text - l.i
