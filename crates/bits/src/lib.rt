@@ -14,7 +14,7 @@ pub use word64::{behind, bytes_for, fits};
 use word64::{low_bits, lower, wide, window};
 
 // A position in a bit string: how many bits lie before it.
-#[derive(Drop)]
+#[derive(Clone, Copy)]
 pub struct Cursor {
     pub at: usize,
 }

@@ -18,7 +18,7 @@ pub enum Filled {
 // Where reading stands: from where to where the block is still to be taken on, how many characters of the line in hand are kept, whether
 // that line is whole, and whether the input ended, of itself or because it could not be read. The next step behind a whole
 // line begins another.
-#[derive(Drop)]
+#[derive(Clone, Copy)]
 pub struct Input {
     pub from: usize,
     pub to: usize,

@@ -1,4 +1,6 @@
 // When two packets of a telegram collide: by their kind and their directions.
+#![tactic(auto)]
+
 ghost use Rattle.std.specs.Prelude.{◌≡◌, ◌&&◌, eqb};
 ghost use Rattle.format.specs.Rules.{clash};
 

@@ -7,7 +7,7 @@ ghost use Rattle.distance.specs.Steps.{step, steps};
 ghost use Rattle.distance.specs.Distance.{number_of, scaled_by, in_decimetres, in_steps, whole_steps, whole_metres};
 
 // The scale of a packet: steps of 10 cm, of 1 m or of 10 m.
-#[derive(Drop)]
+#[derive(Clone, Copy)]
 pub enum Scale {
     Tenths,
     Metres,

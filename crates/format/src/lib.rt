@@ -1,8 +1,9 @@
 // The types that the definitions of docs/RULES.md speak of: the refusals, the answers that carry them, and where a packet begins. The definitions
 // are under specs/, and the code that computes them in the crates `packets`, `refusals`, `table` and `clashes`.
+#![tactic(auto)]
 
 // The kinds of refusal; `number_of` in specs/Refusals.antt gives the number of each (docs/RULES.md).
-#[derive(Drop)]
+#[derive(Clone, Copy)]
 pub enum Kind {
     Room,
     Size,
@@ -30,7 +31,7 @@ pub enum Spot {
 }
 
 // A refusal: its kind together with its place, a bit of the telegram.
-#[derive(Drop)]
+#[derive(Clone, Copy)]
 pub struct Refusal {
     pub kind: Kind,
     pub place: usize,

@@ -3,6 +3,8 @@
 // Every promise says what stands in the bytes, whatever they are (specs/Lists.antt). A list that is counted here keeps its rules, field by field: that is a law above
 // this crate. Each function is given the first n bits of s, at most 830, and a packet that begins at the cursor and ends at the bit end, and counts its values; it
 // counts none where a group breaks a rule, and where the list does not end there.
+#![tactic(auto)]
+
 ghost use Rattle.std.specs.Prelude.{◌≡◌};
 ghost use Rattle.hops.specs.Hops.{link_in, transition_in, choice_in, condition_in, circuit_in};
 ghost use Rattle.lists.specs.Lists.{group_at, others_at, Bounded, links_at, levels_at, choices_at, conditions_at, circuits_at};

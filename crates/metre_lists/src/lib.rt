@@ -15,7 +15,7 @@ use bits::{Cursor, behind};
 use distance::{Scale, Steps};
 
 // What a list is a list of, where it has distances: of ETCS-5, 21, 27, 41, 68 and 79, and of CTCS-1 and 2.
-#[derive(Drop)]
+#[derive(Clone, Copy)]
 pub enum Group {
     Links,
     Slopes,
@@ -28,7 +28,7 @@ pub enum Group {
 }
 
 // A group with one distance, at so many bits: it has so many bits, and step more for each that the field at flag, so many bits wide, counts.
-#[derive(Drop)]
+#[derive(Clone, Copy)]
 pub(crate) struct Layout {
     pub at: usize,
     pub bits: usize,

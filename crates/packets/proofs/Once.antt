@@ -1,5 +1,6 @@
 -- Each promise of this crate is met by one answer alone. Assumes nothing.
 use mathlib.Core.Path.{refl, sym, ap, ◌∙◌}
+use Rattle.packets.specs.contracts as promises
 use Rattle.format.specs.declared.Start.{Start}
 use Rattle.bits.proofs.Once.{OneOutcome}
 use Rattle.packets.proofs.etcs
@@ -24,67 +25,67 @@ use Rattle.packets.proofs.Reversing
 use Rattle.packets.proofs.Turnout
 use Rattle.packets.proofs.Stopping
 
-pub etcs_once : OneOutcome etcs.ended etcs.Reads.Post
+pub etcs_once : OneOutcome promises.etcs.ended etcs.Reads.Post
 etcs_once κs args r t u v p q = (p ∙ sym q, refl)
 
-pub ctcs_once : OneOutcome ctcs.ended ctcs.Reads.Post
+pub ctcs_once : OneOutcome promises.ctcs.ended ctcs.Reads.Post
 ctcs_once κs args r t u v p q = (p ∙ sym q, refl)
 
 -- ---- the kinds: each is known by its start
 
-pub linking_once : OneOutcome Linking.new.ended Linking.new.Reads.Post
+pub linking_once : OneOutcome promises.Linking.new.ended Linking.new.Reads.Post
 linking_once κs args r t u v p q = (ap (λ (s : Start). record { start = s }) (p ∙ sym q), refl)
 
-pub gradient_once : OneOutcome Gradient.new.ended Gradient.new.Reads.Post
+pub gradient_once : OneOutcome promises.Gradient.new.ended Gradient.new.Reads.Post
 gradient_once κs args r t u v p q = (ap (λ (s : Start). record { start = s }) (p ∙ sym q), refl)
 
-pub speed_once : OneOutcome Speed.new.ended Speed.new.Reads.Post
+pub speed_once : OneOutcome promises.Speed.new.ended Speed.new.Reads.Post
 speed_once κs args r t u v p q = (ap (λ (s : Start). record { start = s }) (p ∙ sym q), refl)
 
-pub level_once : OneOutcome Level.new.ended Level.new.Reads.Post
+pub level_once : OneOutcome promises.Level.new.ended Level.new.Reads.Post
 level_once κs args r t u v p q = (ap (λ (s : Start). record { start = s }) (p ∙ sym q), refl)
 
-pub session_once : OneOutcome Session.new.ended Session.new.Reads.Post
+pub session_once : OneOutcome promises.Session.new.ended Session.new.Reads.Post
 session_once κs args r t u v p q = (ap (λ (s : Start). record { start = s }) (p ∙ sym q), refl)
 
-pub national_once : OneOutcome National.new.ended National.new.Reads.Post
+pub national_once : OneOutcome promises.National.new.ended National.new.Reads.Post
 national_once κs args r t u v p q = (ap (λ (s : Start). record { start = s }) (p ∙ sym q), refl)
 
-pub conditional_once : OneOutcome Conditional.new.ended Conditional.new.Reads.Post
+pub conditional_once : OneOutcome promises.Conditional.new.ended Conditional.new.Reads.Post
 conditional_once κs args r t u v p q = (ap (λ (s : Start). record { start = s }) (p ∙ sym q), refl)
 
-pub track_once : OneOutcome Track.new.ended Track.new.Reads.Post
+pub track_once : OneOutcome promises.Track.new.ended Track.new.Reads.Post
 track_once κs args r t u v p q = (ap (λ (s : Start). record { start = s }) (p ∙ sym q), refl)
 
-pub text_once : OneOutcome Text.new.ended Text.new.Reads.Post
+pub text_once : OneOutcome promises.Text.new.ended Text.new.Reads.Post
 text_once κs args r t u v p q = (ap (λ (s : Start). record { start = s }) (p ∙ sym q), refl)
 
-pub position_once : OneOutcome Position.new.ended Position.new.Reads.Post
+pub position_once : OneOutcome promises.Position.new.ended Position.new.Reads.Post
 position_once κs args r t u v p q = (ap (λ (s : Start). record { start = s }) (p ∙ sym q), refl)
 
-pub transition_once : OneOutcome Transition.new.ended Transition.new.Reads.Post
+pub transition_once : OneOutcome promises.Transition.new.ended Transition.new.Reads.Post
 transition_once κs args r t u v p q = (ap (λ (s : Start). record { start = s }) (p ∙ sym q), refl)
 
-pub shunting_once : OneOutcome Shunting.new.ended Shunting.new.Reads.Post
+pub shunting_once : OneOutcome promises.Shunting.new.ended Shunting.new.Reads.Post
 shunting_once κs args r t u v p q = (ap (λ (s : Start). record { start = s }) (p ∙ sym q), refl)
 
-pub sight_once : OneOutcome Sight.new.ended Sight.new.Reads.Post
+pub sight_once : OneOutcome promises.Sight.new.ended Sight.new.Reads.Post
 sight_once κs args r t u v p q = (ap (λ (s : Start). record { start = s }) (p ∙ sym q), refl)
 
-pub default_once : OneOutcome Default.new.ended Default.new.Reads.Post
+pub default_once : OneOutcome promises.Default.new.ended Default.new.Reads.Post
 default_once κs args r t u v p q = (ap (λ (s : Start). record { start = s }) (p ∙ sym q), refl)
 
-pub circuits_once : OneOutcome Circuits.new.ended Circuits.new.Reads.Post
+pub circuits_once : OneOutcome promises.Circuits.new.ended Circuits.new.Reads.Post
 circuits_once κs args r t u v p q = (ap (λ (s : Start). record { start = s }) (p ∙ sym q), refl)
 
-pub restriction_once : OneOutcome Restriction.new.ended Restriction.new.Reads.Post
+pub restriction_once : OneOutcome promises.Restriction.new.ended Restriction.new.Reads.Post
 restriction_once κs args r t u v p q = (ap (λ (s : Start). record { start = s }) (p ∙ sym q), refl)
 
-pub reversing_once : OneOutcome Reversing.new.ended Reversing.new.Reads.Post
+pub reversing_once : OneOutcome promises.Reversing.new.ended Reversing.new.Reads.Post
 reversing_once κs args r t u v p q = (ap (λ (s : Start). record { start = s }) (p ∙ sym q), refl)
 
-pub turnout_once : OneOutcome Turnout.new.ended Turnout.new.Reads.Post
+pub turnout_once : OneOutcome promises.Turnout.new.ended Turnout.new.Reads.Post
 turnout_once κs args r t u v p q = (ap (λ (s : Start). record { start = s }) (p ∙ sym q), refl)
 
-pub stopping_once : OneOutcome Stopping.new.ended Stopping.new.Reads.Post
+pub stopping_once : OneOutcome promises.Stopping.new.ended Stopping.new.Reads.Post
 stopping_once κs args r t u v p q = (ap (λ (s : Start). record { start = s }) (p ∙ sym q), refl)

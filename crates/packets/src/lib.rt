@@ -1,4 +1,6 @@
 // The kinds of packets. Each keeps its identifier, the bits of its head and the row at which its fields begin with the kind.
+#![tactic(auto)]
+
 ghost use Rattle.std.specs.Prelude.{◌≡◌};
 ghost use Rattle.format.specs.Kinds.{etcs_start, ctcs_start};
 

@@ -9,7 +9,7 @@ use libc::STDOUT_FILENO;
 use word64::lower;
 
 // How many characters wait at the front of the array, and whether some could not be written.
-#[derive(Drop)]
+#[derive(Clone, Copy)]
 pub struct Queue {
     pub waiting: usize,
     pub lost: bool,

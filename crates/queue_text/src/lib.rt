@@ -1,4 +1,6 @@
 // Numbers, bits and refusals as text, put behind what waits. Every function answers every queue and every array.
+#![tactic(auto)]
+
 ghost use Rattle.std.specs.Prelude.{take};
 ghost use Rattle.bits.specs.Bits.{bits_of};
 ghost use Rattle.pieces.specs.Numbers.{decimal};

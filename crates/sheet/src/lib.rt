@@ -5,7 +5,7 @@ ghost use Rattle.sheet.specs.Sheets.{number_of, value_of};
 use format::Refusal;
 
 // What export and import answer: done, with the length of the sheet or the n of the telegram; refused by the library; or refused at a row.
-#[derive(Drop)]
+#[derive(Clone, Copy)]
 pub enum Reply {
     Done(usize),
     Refused(Refusal),

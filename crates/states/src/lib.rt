@@ -7,7 +7,7 @@ use format::Kind;
 
 // What is to be sent: the items of row node; at the end of their group, the group left times more; and at the end of the group
 // around that, that group outer times more.
-#[derive(Drop)]
+#[derive(Clone, Copy)]
 pub struct Todo {
     pub node: usize,
     pub left: u64,
@@ -22,7 +22,7 @@ pub enum Ahead {
 }
 
 // Whether the field that is due belongs to the header, to a packet or, behind its NID_XUSER, to the CTCS packet inside one.
-#[derive(Drop)]
+#[derive(Clone, Copy)]
 pub enum Level {
     Header,
     Packet,
@@ -30,7 +30,7 @@ pub enum Level {
 }
 
 // Where a telegram stands before its next field, as `State` and `Context` of the crate format, but for the packets before.
-#[derive(Drop)]
+#[derive(Clone, Copy)]
 pub struct State {
     pub at: usize,
     pub todo: Todo,

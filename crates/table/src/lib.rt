@@ -1,4 +1,6 @@
 // The packets as rows, each packed into one number: what the machine goes by.
+#![tactic(auto)]
+
 ghost use Rattle.std.specs.Prelude.{◌≡◌};
 ghost use Rattle.format.specs.Table.{words, code_by, free_by};
 

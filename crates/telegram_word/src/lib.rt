@@ -1,4 +1,6 @@
 // The telegram that a word of a line writes: its bytes put into what is lent, and n. The public function answers every input.
+#![tactic(auto)]
+
 ghost use Rattle.std.specs.Prelude.{◌≡◌, true, ◌++◌, ◌*◌, ◌≤◌, ◌<◌, length, take, drop};
 ghost use Rattle.words.specs.Words.{up_to};
 ghost use Rattle.telegram_word.specs.Telegrams.{hex_of, hexed, in_pairs, bytes_in, bits_form, hex_form, telegram_in, Lends};

@@ -1,0 +1,9 @@
+-- `table::rows` meets its contract: the checker computes the words of the rows that the items give. Assumes nothing.
+use mathlib.Core.Path.{refl}
+use Rattle.format.specs.Table.{words}
+use Rattle.table.proofs.rows.Goals as goal
+
+-- src/lib.rt:223:1
+pub returns : goal.returns
+unfolding words
+returns c = refl
