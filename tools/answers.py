@@ -111,6 +111,8 @@ class Function:
         if parts[0] in MADE:
             return [MADE[parts[0]]] + parts[1:]
         step = plain(parts[0])
+        if parts[1:2] and parts[1] in ("taken", "left") and self.steps.get(step, "").startswith(("if-", "loop-")):
+            parts = [parts[0], {"taken": "true", "left": "false"}[parts[1]]] + parts[2:]
         if step in self.typed and parts[1:2] and parts[1] in ("given", "fits", "known"):
             return ["type_inv", self.typed[step]] + parts[2:]
         rest = [MADE.get(p, p) for p in parts[1:]]
@@ -173,6 +175,7 @@ class Helpers:
 
     def add(self, block):
         """Whether the block is such a lemma, or a section of them."""
+        block = re.sub(r"\A(?:--[^\n]*\n)+", "", block)
         section = re.match(r"(?s)module _ \(c : tie\.[^)]*\) where\n(.*)", block)
         if section:
             inner = re.split(r"\n(?=  (?:pub )?\S+ : )", "\n" + section[1])
@@ -220,8 +223,12 @@ class Helpers:
             for each in re.findall(r"let \w+ = \S+ in", hoisted[1]):
                 if each not in out:
                     out += "\n    " + each
-            out += f"\n    let {n} : {hoisted[2]} = {term} in"
+            out += f"\n    let {n} : {hoisted[2]} = {term} in" if kind else ""
         out += "\n    " + body.strip()
+        for name in reversed(order):
+            kind, term = self.of[name]
+            if not kind:
+                out = re.sub(r"(?<![\w.'-])(%s) %s" % (re.escape(name), roots), lambda _: f"({term})", out)
         for name in order:
             out = re.sub(r"(?<![\w.'-])(%s) %s" % (re.escape(name), roots), r"\1", out)
         return out
@@ -240,6 +247,12 @@ def turn(landed, crate, module, folder, of):
         return
     kept_head = [l for l in head if not re.search(r"\.(Statement\.\{statement\}|Tie as tie)$", l)]
     answers, invariants, lemmas, helpers = [], [], [], Helpers(fn)
+    inner = [b for b in parts if "tie.close" not in b]
+    for block in ours:
+        name = name_of(block)
+        if any(re.search(r"(?<![\w.'-])%s \(?c(?:\.before)*" % re.escape(name), b) for b in inner if b is not block):
+            found = re.search(r"(?s)\n%s((?: [^\s=]+)*) =(.*)" % re.escape(name), block)
+            helpers.keep(name, "", [b for b in found[1].split()[1:] if b != "κs"], found[2])
     olds = iter(order)
     for block in parts:
         if "tie.close" in block or re.search(r"statement M$", block, re.M):
@@ -264,6 +277,8 @@ def answer(crate, module, fn, kind, block, answers, invariants, helpers):
         return
     old = re.match(r"Need-(\S+)", kind)[1]
     new = fn.need(old)
+    if not new and PLAIN.fullmatch(re.sub(r"(?s).* =", "", rest).strip()):
+        return
     if not new:
         print(f"left: {crate}::{module}: no goal for {old}")
         return

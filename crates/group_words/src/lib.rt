@@ -1,5 +1,7 @@
 // The group that a line writes: its telegrams' bytes one behind the other put into what is lent, and the n of each. The public function answers
 // every input.
+#![tactic(auto)]
+
 ghost use Rattle.std.specs.Prelude.{◌≡◌, ◌≤◌, length};
 ghost use Rattle.std.proofs.Math.Option.{some};
 ghost use Rattle.words.specs.Words.{words_in};

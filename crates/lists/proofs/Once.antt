@@ -1,5 +1,6 @@
 -- Each promise of this crate is met by one answer alone. Assumes nothing.
 use mathlib.Core.Path.{refl, sym, ◌∙◌}
+use Rattle.lists.specs.contracts as promises
 use Rattle.bits.proofs.Once.{OneOutcome}
 use Rattle.lists.proofs.links
 use Rattle.lists.proofs.levels
@@ -7,17 +8,17 @@ use Rattle.lists.proofs.choices
 use Rattle.lists.proofs.conditions
 use Rattle.lists.proofs.circuits
 
-pub links_once : OneOutcome links.ended links.Reads.Post
+pub links_once : OneOutcome promises.links.ended links.Reads.Post
 links_once κs args r t u v p q = (p ∙ sym q, refl)
 
-pub levels_once : OneOutcome levels.ended levels.Reads.Post
+pub levels_once : OneOutcome promises.levels.ended levels.Reads.Post
 levels_once κs args r t u v p q = (p ∙ sym q, refl)
 
-pub choices_once : OneOutcome choices.ended choices.Reads.Post
+pub choices_once : OneOutcome promises.choices.ended choices.Reads.Post
 choices_once κs args r t u v p q = (p ∙ sym q, refl)
 
-pub conditions_once : OneOutcome conditions.ended conditions.Reads.Post
+pub conditions_once : OneOutcome promises.conditions.ended conditions.Reads.Post
 conditions_once κs args r t u v p q = (p ∙ sym q, refl)
 
-pub circuits_once : OneOutcome circuits.ended circuits.Reads.Post
+pub circuits_once : OneOutcome promises.circuits.ended circuits.Reads.Post
 circuits_once κs args r t u v p q = (p ∙ sym q, refl)

@@ -9,7 +9,8 @@ pub slice_bounds-d-end : goal.slice_bounds-d-end
 slice_bounds-d-end c = digits_within _ _ c.args.v c.append_decimal-k.result refl c.append_decimal-k.ensures
 
 pub slice_bounds-say-end : goal.slice_bounds-say-end
-slice_bounds-say-end c = sym (length-take-le _ _ (array-share-prefix-d c))
+slice_bounds-say-end c =
+    sym (length-take-le _ _ ((digits_within _ _ c.args.v c.append_decimal-k.result refl c.append_decimal-k.ensures)))
 
 pub returns : goal.returns
 returns c = joins_as (digits_are _ _ c.args.v c.append_decimal-k.result refl c.append_decimal-k.ensures) c.say.ensures

@@ -3,17 +3,17 @@ use borrow.Author.Tests.{eq-eqb, ne_eqb, lt-ltb, le-ltb}
 use Rattle.table.proofs.ranges.high.Goals as goal
 
 pub returns-then-r-lt10 : goal.returns-then-r-lt10
-returns-then-r-lt10 c = simp (lt-ltb c.args.r 10 c.if-r-lt10.taken)
+returns-then-r-lt10 c = simp (lt-ltb c.args.r 10 c.if-r-lt10.true)
 
 pub returns-then-r-lt52 : goal.returns-then-r-lt52
-returns-then-r-lt52 c = simp (le-ltb c.args.r 10 c.if-r-lt10.left, lt-ltb c.args.r 52 c.if-r-lt52.taken)
+returns-then-r-lt52 c = simp (le-ltb c.args.r 10 c.if-r-lt10.false, lt-ltb c.args.r 52 c.if-r-lt52.true)
 
 pub returns-then-r-eq62 : goal.returns-then-r-eq62
 returns-then-r-eq62 c =
     let r = c.args.r in
-    simp (le-ltb r 10 c.if-r-lt10.left, le-ltb r 52 c.if-r-lt52.left, eq-eqb r 62 c.if-r-eq62.taken)
+    simp (le-ltb r 10 c.if-r-lt10.false, le-ltb r 52 c.if-r-lt52.false, eq-eqb r 62 c.if-r-eq62.true)
 
 pub returns : goal.returns
 returns c =
     let r = c.args.r in
-    simp (le-ltb r 10 c.if-r-lt10.left, le-ltb r 52 c.if-r-lt52.left, ne_eqb r 62 c.if-r-eq62.left)
+    simp (le-ltb r 10 c.if-r-lt10.false, le-ltb r 52 c.if-r-lt52.false, ne_eqb r 62 c.if-r-eq62.false)
