@@ -1,4 +1,6 @@
 // How an answer reads as text, put behind what waits: values, the bits of a telegram, and that a line is no question.
+#![tactic(auto)]
+
 ghost use Rattle.bits.specs.Bits.{bits_of};
 ghost use Rattle.queue.specs.Waiting.{Joins};
 ghost use Rattle.answer_text.specs.Texts.{no_question, spaced, listed, sent_text};

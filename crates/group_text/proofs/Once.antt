@@ -2,15 +2,16 @@
 use mathlib.Core.Path.{ap}
 use mathlib.Core.List.{List}
 use Prim.Native.Nat.{ℕ}
+use Rattle.group_text.specs.contracts as promises
 use Rattle.bits.proofs.Once.{OneOutcomeGiven}
 use Rattle.queue.proofs.Once.{same_array, same_queue}
 use Rattle.group_text.proofs.packets
 use Rattle.group_text.proofs.fault
 
-pub packets_once : OneOutcomeGiven packets.ended packets.Reads.Post (λ κs args r s p. p.failed)
+pub packets_once : OneOutcomeGiven promises.packets.ended packets.Reads.Post (λ κs args r s p. p.failed)
 packets_once κs args r t u v p q e =
     (same_queue p q e, ap (λ (out : List ℕ). (u.0, (u.1.0, (u.1.1.0, (out, u.1.1.1.1))))) (same_array p q))
 
-pub fault_once : OneOutcomeGiven fault.ended fault.Reads.Post (λ κs args r s p. p.failed)
+pub fault_once : OneOutcomeGiven promises.fault.ended fault.Reads.Post (λ κs args r s p. p.failed)
 fault_once κs args r t u v p q e =
     (same_queue p q e, ap (λ (out : List ℕ). (u.0, (u.1.0, (u.1.1.0, (out, u.1.1.1.1))))) (same_array p q))

@@ -1,4 +1,6 @@
 // How the answer to a group reads as text, put behind what waits: the packets of its message, or why it is refused. Every function answers every input.
+#![tactic(auto)]
+
 ghost use Rattle.queue.specs.Waiting.{Joins};
 ghost use Rattle.group_text.specs.Texts.{packet_text, packet_texts, packets_text, fault_text};
 

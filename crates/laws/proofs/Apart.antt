@@ -159,7 +159,7 @@ pub record Finished (p : Terms) (whole : List Entry) : Type 0 where
 run_finished : {p : Terms} {es : List Entry} {s : State} {rest : List Entry} → Sends p es s → Run p s rest → Finished p (es ++ rest)
 run_finished {es = es} h (last {s = s} {v = v} f e) = record { sent = es; state = s; value = v; sends = h; fits = f; marks = e; ends = refl }
 run_finished {p} {es} h (more {s = s} {v = v} {es = rest} f e r) =
-    subst (Finished p) (append_assoc es (entry s v ∷ []) rest) (run_finished (one_more v h f e) r)
+    subst (Finished p) (append_assoc es (entry s v ∷ []) rest) (run_finished {es = es ++ (entry s v ∷ [])} (one_more v h f e) r)
 
 -- and so does a telegram
 pub finished : {p : Terms} {es : List Entry} → Telegram p es → Finished p es

@@ -133,7 +133,7 @@ module _ (p : Terms) where
       let r = run_due w Q_DIR d.0 d.1 in
       (r.0, (r.1.0, cc r.1.1))
   directed_on id (x ∷ b) a h (last {s = s} {v = v} f e) i = not_empty b (holding NID_PACKET id) a (cc)
-  directed_on id (x ∷ b) a h (more {v = v} f e w) i = directed_on id b a (one_more v h f e) w (cc)
+  directed_on {es = es} {s = s} id (x ∷ b) a h (more {v = v} f e w) i = directed_on {es = es ++ (entry s v ∷ [])} id b a (one_more v h f e) w (cc)
 
 -- every NID_PACKET of a telegram begins a packet: its Q_DIR stands right behind it
 pub every_packet : {p : Terms} {es : List Entry} → Telegram p es → (id : ℕ) (b a : List Entry) → es ≡ b ++ holding NID_PACKET id ∷ a

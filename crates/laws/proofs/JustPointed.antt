@@ -20,7 +20,7 @@ use Rattle.laws.proofs.OnePlace.{Stops, pointed_stops, one_pointed}
 use Rattle.laws.proofs.OnePlace.Stops.{here, later}
 
 -- where something is pointed at, the source is refused
-refused_there : {p : Terms} {source : State → List ℕ → Taken} {es : List Entry} {s : State} {xs : List ℕ} {q : Refusal}
+refused_there : {p : Terms} {source : State → List ℕ → Taken} {q : Refusal} {es : List Entry} {s : State} {xs : List ℕ}
     → Stops p source q es s xs → (r : Refusal) × Refused p source s xs r
 refused_there (here (lacking e m)) = (_, refusals.lacking e)
 refused_there (here (breaking e f o)) = (_, refusals.breaking e f)

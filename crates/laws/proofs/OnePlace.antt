@@ -131,7 +131,7 @@ pub data Stops (p : Terms) (source : State → List ℕ → Taken) (r : Refusal)
   later : {es : List Entry} {s : State} {v : ℕ} {xs ys : List ℕ} {t : Items} {c : Context} → source s xs ≡ got v ys → step p s v ≡ go t c
       → Stops p source r (es ++ (entry s v ∷ [])) (moved s t c) ys → Stops p source r es s xs
 
-one_stop : {p : Terms} {source : State → List ℕ → Taken} {es : List Entry} {s : State} {xs : List ℕ} {r q : Refusal}
+one_stop : {p : Terms} {source : State → List ℕ → Taken} {r q : Refusal} {es : List Entry} {s : State} {xs : List ℕ}
     → Stops p source r es s xs → Stops p source q es s xs → r ≡ q
 one_stop (here h) (here k) = one_points h k
 one_stop {q = q} (here h) (later e f k) = halts q h e f

@@ -76,7 +76,7 @@ module _ (p q : Terms) (weaker : Weaker p q) where
       by_step (inl k) = inl (last f (k ∙ e))
       by_step (inr k) = inr (halts_here h f [] k)
   goes_on {es} h (more {s = s} {v = v} {t = t} {c = c} {es = rest} f e r) =
-      by_step (step_kept p q weaker s v) (λ k. goes_on (one_more v h f k) r)
+      by_step (step_kept p q weaker s v) (λ k. goes_on {es = es ++ (entry s v ∷ [])} (one_more v h f k) r)
     where
       by_step : (step q s v ≡ step p s v) ⊎ (step q s v ≡ breaks Repeated)
           → (step q s v ≡ go t c → Run q (moved s t c) rest ⊎ Halted q ((es ++ (entry s v ∷ [])) ++ rest))

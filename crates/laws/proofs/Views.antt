@@ -8,7 +8,7 @@ use lib.ListN.{length}
 use Rattle.format.specs.Fields.{Field}
 use Rattle.format.specs.Telegrams.{Entry, places, bit_count}
 use Rattle.distance.specs.Steps.{decimetres, steps}
-use Rattle.format.specs.Normal.{view, says_under, metres, metric, best, put, normal_under}
+use Rattle.format.specs.Normal.{choose, view, says_under, metres, metric, best, put, normal_under}
 use Rattle.format.specs.Normal.Said.{sent, apart, long}
 use Rattle.format.specs.Normal.View.{kept, scales, measures}
 
@@ -74,17 +74,17 @@ normal_none q r = refl
 pub fields_normal : (q r : ℕ) (es : List Entry) → map (λ (e : Entry). e.field) (normal_under q r es) ≡ map (λ (e : Entry). e.field) es
 unfolding normal_under
 fields_normal q r [] = refl
-fields_normal q r (e ∷ es) = ap (λ (l : List Field). e.field ∷ l) (fields_normal _ _ es)
+fields_normal q r (e ∷ es) = ap (λ (l : List Field). e.field ∷ l) (fields_normal (choose (view e) q e.value q) (choose (view e) r (best e.value es) r) es)
 
 pub places_normal : (q r at : ℕ) (es : List Entry) → places at (normal_under q r es) ≡ places at es
 unfolding normal_under
 places_normal q r at [] = refl
-places_normal q r at (e ∷ es) = ap (λ (l : List ℕ). at ∷ l) (places_normal _ _ (at + e.field.width) es)
+places_normal q r at (e ∷ es) = ap (λ (l : List ℕ). at ∷ l) (places_normal (choose (view e) q e.value q) (choose (view e) r (best e.value es) r) (at + e.field.width) es)
 
 pub bit_count_normal : (q r : ℕ) (es : List Entry) → bit_count (normal_under q r es) ≡ bit_count es
 unfolding normal_under
 bit_count_normal q r [] = refl
-bit_count_normal q r (e ∷ es) = ap (λ (n : ℕ). e.field.width + n) (bit_count_normal _ _ es)
+bit_count_normal q r (e ∷ es) = ap (λ (n : ℕ). e.field.width + n) (bit_count_normal (choose (view e) q e.value q) (choose (view e) r (best e.value es) r) es)
 
 -- ---- "each scaled packet uses Q_SCALE 1 if ..; otherwise it keeps its scale"
 
@@ -101,4 +101,4 @@ pub normal_scaled : (q r : ℕ) (ds : List Entry) (e : Entry) (es : List Entry) 
     → Scaled ds e es (normal_under q r (ds ++ e ∷ es))
 unfolding normal_under
 normal_scaled q r [] e es h = record { front = []; as_many = refl; is = normal_scales e es q r h }
-normal_scaled q r (d ∷ ds) e es h = further d _ (normal_scaled _ _ ds e es h)
+normal_scaled q r (d ∷ ds) e es h = further d _ (normal_scaled (choose (view d) q d.value q) (choose (view d) r (best d.value (ds ++ e ∷ es)) r) ds e es h)

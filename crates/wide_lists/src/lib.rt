@@ -1,4 +1,6 @@
 // Lists whose groups are too wide for one window with N_ITER behind it. What `lists` says of the others holds of these.
+#![tactic(auto)]
+
 ghost use Rattle.std.specs.Prelude.{◌≡◌, ◌≤◌};
 ghost use Rattle.lists.specs.Lists.{others_at, Bounded};
 ghost use Rattle.wide_lists.specs.WideLists.{differing, speed_of, speed_at, position_at, speeds_at, positions_at};

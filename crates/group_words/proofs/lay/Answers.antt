@@ -1,5 +1,4 @@
 -- `group_words::lay` meets its contract: the first telegrams were put. The measure is how many characters are left. Assumes nothing.
-use mathlib.Core.Logic.{⊎_elim}
 use Rattle.group_words.proofs.Puts.{laying_first, laying_inside, laying_length, laying_counts, laying_counted, laying_lent, laying_used, laying_on, laying_end}
 use Rattle.group_words.proofs.Walks.{end_inside}
 use native.Mathlib.Omega.{arith}
@@ -18,13 +17,13 @@ pub slice_bounds-telegram-start-in-loop-at : goal.slice_bounds-telegram-start-in
 slice_bounds-telegram-start-in-loop-at c = omega (arith, laying_inside (record { are = c.requires.0; fits = c.requires.1; holds = c.requires.2 }) c.loop-at.invariant)
 
 pub shape_of-bytes-in_default : goal.shape_of-bytes-in_default
-shape_of-bytes-in_default c = absurd (⊎_elim (λ z. omega (arith, z)) (λ z. omega (arith, z)) (rw (laying_lent (record { are = c.requires.0; fits = c.requires.1; holds = c.requires.2 }) c.loop-at.invariant c.loop-at-test.true c.word_end-end.result c.word_end-end.ensures c.telegram-lent.result _ c.telegram-lent.ensures) at c.in-Bytes.in-Bytes-own.keys2))
+shape_of-bytes-in_default c = absurd (c.in_default.not-Bytes _ _ (laying_lent (record { are = c.requires.0; fits = c.requires.1; holds = c.requires.2 }) c.loop-at.invariant c.loop-at-test.true c.word_end-end.result c.word_end-end.ensures c.telegram-lent.result _ c.telegram-lent.ensures))
 
 pub shape_of-ns-in_default : goal.shape_of-ns-in_default
-shape_of-ns-in_default c = absurd (⊎_elim (λ z. omega (arith, z)) (λ z. omega (arith, z)) (rw (laying_lent (record { are = c.requires.0; fits = c.requires.1; holds = c.requires.2 }) c.loop-at.invariant c.loop-at-test.true c.word_end-end.result c.word_end-end.ensures c.telegram-lent.result _ c.telegram-lent.ensures) at c.in-Bytes.in-Bytes-own.keys2))
+shape_of-ns-in_default c = absurd (c.in_default.not-Bytes _ _ (laying_lent (record { are = c.requires.0; fits = c.requires.1; holds = c.requires.2 }) c.loop-at.invariant c.loop-at-test.true c.word_end-end.result c.word_end-end.ensures c.telegram-lent.result _ c.telegram-lent.ensures))
 
 pub returns-in_default : goal.returns-in_default
-returns-in_default c = absurd (⊎_elim (λ z. omega (arith, z)) (λ z. omega (arith, z)) (rw (laying_lent (record { are = c.requires.0; fits = c.requires.1; holds = c.requires.2 }) c.loop-at.invariant c.loop-at-test.true c.word_end-end.result c.word_end-end.ensures c.telegram-lent.result _ c.telegram-lent.ensures) at c.in-Bytes.in-Bytes-own.keys2))
+returns-in_default c = absurd (c.in_default.not-Bytes _ _ (laying_lent (record { are = c.requires.0; fits = c.requires.1; holds = c.requires.2 }) c.loop-at.invariant c.loop-at-test.true c.word_end-end.result c.word_end-end.ensures c.telegram-lent.result _ c.telegram-lent.ensures))
 
 pub offset_bounds-ns-i : goal.offset_bounds-ns-i
 offset_bounds-ns-i c = omega (arith, laying_counted (record { are = c.requires.0; fits = c.requires.1; holds = c.requires.2 }) c.loop-at.invariant c.loop-at-test.true c.word_end-end.result c.word_end-end.ensures, laying_counts (record { are = c.requires.0; fits = c.requires.1; holds = c.requires.2 }) c.loop-at.invariant)

@@ -1,0 +1,6 @@
+-- `group_text::packets` meets its contract: its pieces join one behind the other. Assumes nothing.
+use Rattle.queue.proofs.Joining.{joins_then}
+use Rattle.group_text.proofs.packets.Goals as goal
+
+pub returns : goal.returns
+returns c = joins_then (joins_then (joins_then c.say-a.ensures c.number-b.ensures) c.each-c.ensures) c.put.ensures
