@@ -2,6 +2,8 @@
 //
 // Numbers are read in the bytes s, which hold the telegram as it was sent, and put into out at the same places: crate `told` has what is put. A list
 // is gone over twice, by one function for each way in which a group is laid out: it tests each distance, or, with puts, it puts each.
+#![tactic(auto)]
+
 ghost use Rattle.std.specs.Prelude.{true, false, cond, ◌&&◌, ◌≡◌, leb, length, ◌+◌, ◌-◌, ◌≤◌, ◌<◌};
 ghost use Rattle.bits.specs.Ahead as sight;
 ghost use Rattle.bits.specs.Put.{put_at};

@@ -2,6 +2,8 @@
 //
 // Numbers are read in the bytes s, which hold the telegram as it was sent, and put into out at the same places: crate `told` has what is put, kind by
 // kind.
+#![tactic(auto)]
+
 ghost use Rattle.std.specs.Prelude.{◌&&◌, cond, ◌≡◌, eqb, ◌+◌, ◌≤◌, length};
 ghost use Rattle.bits.specs.Ahead.{seen_at, number_at};
 ghost use Rattle.distance.specs.Distance.{number_of};

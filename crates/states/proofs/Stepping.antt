@@ -19,7 +19,7 @@ use Rattle.states.specs.declared.State.{State}
 use Rattle.states.specs.declared.Outcome.{Outcome}
 use Rattle.states.specs.declared.Outcome.TheVariants.{Go, Over, Breaks}
 use Rattle.states.specs.declared.Verdict.TheVariants.{Fine, Broken}
-use Rattle.states.proofs.Moves.{todo_end, goes_on_lem, none_left, due_right}
+use Rattle.states.proofs.Moves.{todo_end, goes_on, none_left, due_right}
 use Rattle.states.proofs.Senses.{sense_is}
 
 -- ---- widths
@@ -36,7 +36,7 @@ width_in f = leb→le f.width 64 (and_right (leb 1 f.width) (leb f.width 64) f.s
 module _ (s : State) (d : Sound s) where
   pub settled_goes : (act s.todo.node ≡ 0 → ⊥) → Settled s (Go s)
   settled_goes h =
-      record { right = λ l. goes_on_lem s.todo.node s.todo.left s.todo.outer h s.at (context_of l s); kept = (d, refl) }
+      record { right = λ l. goes_on s.todo.node s.todo.left s.todo.outer h s.at (context_of l s); kept = (d, refl) }
 
   module _ (z : act s.todo.node ≡ 0) where
     at_end : todo_of s.todo ≡ end

@@ -1,5 +1,7 @@
 // Where a telegram stands between two fields: the types of it, what they stand for and what is answered (specs/), and all that is proved of
 // that (proofs/). The functions over it stand in the crates above: `lookback`, `noting`, `front`, `short`, `telegram`.
+#![tactic(auto)]
+
 pub mod codes;
 
 use bits::Cursor;
