@@ -2,6 +2,8 @@
 //
 // Every promise says what stands in the bytes, whatever they are (specs/Bodies.antt). Each function is given the first n bits of s and a packet that begins at the
 // cursor, so long or ending at the bit end; it counts no value where a rule is broken, or where the packet is not as long as its fields.
+#![tactic(auto)]
+
 ghost use Rattle.std.specs.Prelude.{◌≡◌, ◌≤◌};
 ghost use Rattle.bodies.specs.Bodies.{sized_by, radio_at, track_at, restricted_at, stopping_at, text_in, text_at};
 

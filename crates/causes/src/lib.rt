@@ -1,4 +1,6 @@
 // The number of a group's refusal. A crate of its own, as `refusals` is, since six arms cost more than a small function should.
+#![tactic(auto)]
+
 ghost use Rattle.std.specs.Prelude.{◌≡◌};
 ghost use Rattle.group.specs.Groups.{cause_number};
 

@@ -1,4 +1,6 @@
 // The header, taken as one field: its first 25 bits hold all of it that a rule reads, and 25 more are gone past unread.
+#![tactic(auto)]
+
 ghost use Rattle.std.specs.Prelude.{◌≡◌};
 ghost use Rattle.states.specs.Heads.{front_of};
 

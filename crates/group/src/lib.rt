@@ -1,5 +1,7 @@
 // A balise group as one message: what it answers, and why it is refused. The definitions are in specs/, the laws in proofs/; the functions stand in
 // the crates above this one, `message::message` before all.
+#![tactic(auto)]
+
 use format::{Kind, Refusal};
 
 // Why a group is refused. `causeNumber` in specs/Groups.antt gives the number of each (docs/RULES.md).

@@ -9,7 +9,7 @@ use native.Mathlib.Omega.{arith}
 use borrow.Author.Tests.{eqb-true, eqb-false}
 use lib.Dec.{eqb, leb}
 use lib.ListN.{length}
-use Rattle.format.specs.Fields.{Field, N_PIG, N_TOTAL}
+use Rattle.format.specs.Fields.{Field, NID_C, NID_BG, Q_LINK, N_PIG, N_TOTAL}
 use Rattle.format.specs.Rules.{Terms}
 use Rattle.format.specs.Telegrams.{Entry, Result}
 use Rattle.format.specs.Telegrams.Result.{accepted, refused}
@@ -79,7 +79,7 @@ same_symmetric f t u = eqb_symmetric (held f t) (held f u)
 
 pub agree_symmetric : (t u : List Entry) → agree t u ≡ agree u t
 agree_symmetric t u =
-    ap₂ ◌&&◌ (ap₂ ◌&&◌ (ap₂ ◌&&◌ (same_symmetric _ t u) (same_symmetric _ t u)) (same_symmetric _ t u)) (same_symmetric _ t u)
+    ap₂ ◌&&◌ (ap₂ ◌&&◌ (ap₂ ◌&&◌ (same_symmetric NID_C t u) (same_symmetric NID_BG t u)) (same_symmetric Q_LINK t u)) (same_symmetric N_TOTAL t u)
 
 pub perm_standing : (k : ℕ) {l m : Telegrams} → Permᴰ l m → Permᴰ (standing k l) (standing k m)
 perm_standing k Permᴰ.nil = Permᴰ.nil

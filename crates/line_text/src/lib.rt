@@ -1,5 +1,7 @@
 // Lines that programs read and print: how much of an input is its line, and the lines of a refusal and of a bit string. Every input and every room
 // has its answer.
+#![tactic(auto)]
+
 ghost use Rattle.std.specs.Prelude.{◌≡◌, length};
 ghost use Rattle.pieces.specs.Pieces.{Grown};
 ghost use Rattle.line_text.specs.Lines.{line_length, refusal_into};

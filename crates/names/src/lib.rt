@@ -1,4 +1,6 @@
 // The name of a field by its number, for the numbers that `telegram::label` hands out.
+#![tactic(auto)]
+
 ghost use Rattle.std.specs.Prelude.{◌≡◌, ◌≤◌, ◌<◌, length};
 ghost use Rattle.names.specs.Names.{name_text, name_end};
 ghost use Rattle.pieces.specs.Pieces.{Appended};

@@ -1,4 +1,5 @@
 -- Each promise of this crate is met by one answer alone. Assumes nothing.
+use Rattle.noting.specs.contracts as promises
 use Rattle.std.proofs.Common.{◌≡◌, List, [], sym, refl, ap, ◌∙◌}
 use Rattle.bits.proofs.Once.{OneOutcome}
 use Rattle.format.specs.Rules.{Earlier, Context}
@@ -10,10 +11,10 @@ use Rattle.noting.proofs.noted
 use Rattle.noting.proofs.closes
 use Rattle.noting.proofs.place
 
-pub closes_once : OneOutcome closes.ended closes.Reads.Post
+pub closes_once : OneOutcome promises.closes.ended closes.Reads.Post
 closes_once κs args r t u v p q = (p [] ∙ sym (q []), refl)
 
-pub place_once : OneOutcome place.ended place.Reads.Post
+pub place_once : OneOutcome promises.place.ended place.Reads.Post
 place_once κs args r t u v p q = (p [] ∙ sym (q []), refl)
 
 -- a level is known by the definition's
@@ -62,6 +63,6 @@ state_same a b l e f h = by_parts
           ap (λ (x : Context). x.pig) h,
         )
 
-pub noted_once : OneOutcome noted.ended noted.Reads.Post
+pub noted_once : OneOutcome promises.noted.ended noted.Reads.Post
 noted_once κs args r t u v p q =
     (state_same r t _ (p.here ∙ sym q.here) (p.same ∙ sym q.same) (sym (p.right 0 0 []) ∙ q.right 0 0 []), refl)

@@ -1,5 +1,7 @@
 // What later rules go by: what a packet's values leave for them, whether a packet that ends is as long as it said, and where what a
 // refusal points at begins.
+#![tactic(auto)]
+
 ghost use Rattle.std.specs.Prelude.{◌≡◌, ◌-◌, ◌%◌, ◌^◌, List};
 ghost use Rattle.format.specs.Rules.{Earlier, spot_of, place_from};
 ghost use Rattle.format.specs.Rules as rules;

@@ -2,8 +2,9 @@
 -- `Scans`, and at the end mark it gives the answer. Assumes nothing.
 use mathlib.Core.Bool.{true}
 use mathlib.Core.List.{List, [], ◌∷◌, ◌++◌}
+use mathlib.Core.Logic.{◌⊎◌, inl, inr}
 use mathlib.Core.Option.{some}
-use mathlib.Core.Path.{◌≡◌, refl, sym, ap, ◌∙◌}
+use mathlib.Core.Path.{◌≡◌, refl, sym, ap, subst, ◌∙◌}
 use Prim.Native.Nat.{ℕ, suc, ◌+◌, ◌-◌, ◌*◌, ◌≤◌}
 use native.Mathlib.Omega.{arith}
 use borrow.Author.Tests.{le-leb}
@@ -35,7 +36,7 @@ use Rattle.laws.proofs.Turns.{pushes, pushes_one, pushes_ended, one_mark, one_fi
 use Rattle.states.specs.Machine.{view, fresh_at}
 use Rattle.states.proofs.Moves.{none_left}
 use Rattle.states.proofs.Scanning.{Scans, telegram_bits, inside_take}
-use Rattle.passing.proofs.Passing.{Keeps, keeps_unbroken, keeps_noted, Passed, passed_grows, passed_going}
+use Rattle.passing.proofs.Passing.{value_at, Keeps, keeps_unbroken, keeps_noted, Passed, passed_grows, passed_going}
 use Rattle.passing.proofs.Passing.Passed.{stay, pass}
 use Rattle.states.specs.declared.State as machine
 
@@ -126,6 +127,11 @@ pub settled_closing : (x : ℕ) (c : Context) → closes x c c.level ≡ true �
 unfolding settled
 settled_closing x c e = rw e
 
+-- what is left on the way to the end of a packet: nothing, or a field
+left_closed : {s : List ℕ} {t : Items} {x m y : ℕ} → Passed s t x m end y → ((t ≡ end) × (x ≡ y) × (m ≡ 0)) ⊎ T (going t)
+left_closed stay = inl (refl, refl, refl)
+left_closed (pass g k e p) = inr g
+
 module _ {s : List ℕ} {n : ℕ} (c : Context) where
   -- to the same place, after as many
   counted : {q : State} {a b : ℕ} → Stood s n q a → a ≡ b → Stood s n q b
@@ -144,12 +150,18 @@ module _ {s : List ℕ} {n : ℕ} (c : Context) where
   pub stood_closed : {t : Items} {x m y : ℕ} {count : ℕ} → Passed s t x m end y → T (going t) → Stood s n (standing x t c) count → y ≤ n
       → closes y c c.level ≡ true → Stood s n (standing y end (fresh y c)) (count + m)
   stood_closed stay g i h z = absurd g
-  stood_closed {t = t} {x = x} (pass g k e stay) f i h z =
-      stood_on i h (step_kept (standing x t c) _ end k e ∙ settled_closing (x + (due t).width) c z)
-  stood_closed {t = t} {x = x} (pass {u = u} g k e (pass a b d p)) f i h z =
-      let l = passed_grows (pass a b d p) in
-      let j = stood_on i (omega arith) (step_kept (standing x t c) _ u k e ∙ settled_going (x + (due t).width) u c a) in
-      counted (stood_closed (pass a b d p) a j h z) (omega arith)
+  stood_closed {t = t} {x = x} {y = y} {count = count} (pass {u = u} {m = m} g k e p) f i h z =
+      let here = step_kept (standing x t c) (value_at s t x) in
+      elim (left_closed p) [
+        inl a ↦ subst (λ (b : ℕ). b ≤ n → closes b c c.level ≡ true → Stood s n (standing b end (fresh b c)) (count + suc m))
+            a.1
+            (λ d v. counted (stood_on i d (here end k (e ∙ ap some a.0) ∙ settled_closing (x + (due t).width) c v)) (omega (arith, a.2)))
+            h
+            z
+        | inr a ↦ let l = passed_grows p in
+            let j = stood_on i (omega arith) (here u k e ∙ settled_going (x + (due t).width) u c a) in
+            counted (stood_closed p a j h z) (omega arith)
+      ]
 
 -- ---- at an edge
 

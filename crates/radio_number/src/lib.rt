@@ -1,4 +1,6 @@
 // What a radio number may be.
+#![tactic(auto)]
+
 ghost use Rattle.std.specs.Prelude.{◌≡◌, false};
 ghost use Rattle.format.specs.Rules.{radio_from};
 

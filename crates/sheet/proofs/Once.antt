@@ -1,11 +1,12 @@
 -- The promises of `number` and `value` are each met by one answer alone; those of `export`, `import` and `judge` are in their crates. Assumes nothing.
 use mathlib.Core.Path.{refl, sym, ◌∙◌}
+use Rattle.sheet.specs.contracts as promises
 use Rattle.bits.proofs.Once.{OneOutcome}
 use Rattle.sheet.proofs.number
 use Rattle.sheet.proofs.value
 
-pub number_once : OneOutcome number.ended number.Reads.Post
+pub number_once : OneOutcome promises.number.ended number.Reads.Post
 number_once κs args r t u v p q = (p ∙ sym q, refl)
 
-pub value_once : OneOutcome value.ended value.Reads.Post
+pub value_once : OneOutcome promises.value.ended value.Reads.Post
 value_once κs args r t u v p q = (p ∙ sym q, refl)

@@ -1,4 +1,6 @@
 // Data sheets: a telegram as a table of text. What a sheet is, and what is answered; sheet_out writes one, and sheet_in reads one.
+#![tactic(auto)]
+
 ghost use Rattle.std.specs.Prelude.{◌≡◌};
 ghost use Rattle.sheet.specs.Sheets.{number_of, value_of};
 

@@ -1,4 +1,6 @@
 // What the rows of a sheet are made of: what each begins with, and its value, read and put.
+#![tactic(auto)]
+
 ghost use Rattle.std.specs.Prelude.{◌≡◌};
 ghost use Rattle.sheet.specs.Rows.{labels, starts};
 

@@ -1,5 +1,7 @@
 // The short ways: which fields need not be read, and which values need nothing of where a telegram stands. Both go by the rest of a row, as
 // `table` packs it. Beside them how long a telegram and a value may be (`size`), which needs no table.
+#![tactic(auto)]
+
 ghost use Rattle.std.specs.Prelude.{◌≡◌};
 ghost use Rattle.states.specs.Machine.{unread, slight};
 

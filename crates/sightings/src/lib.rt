@@ -1,6 +1,8 @@
 // Packets where they stand in a buffer, each known by its head, and which ways packets of one kind were sent already.
 //
 // No function asks anything of its caller: where no head stands, and for a Q_DIR above 2, the definitions in specs/ say what is found.
+#![tactic(auto)]
+
 ghost use Rattle.std.specs.Prelude.{◌≡◌, max, drop};
 ghost use Rattle.sightings.specs.Sightings.{head_at, shared_by, repeats_in, joined_by, besides};
 

@@ -1,5 +1,7 @@
 // Whether a packet collides with an earlier one, found by a look back over bits that asks nothing of them. The swift look of `lookback` leaves to it what it
 // is not sure of.
+#![tactic(auto)]
+
 ghost use Rattle.std.specs.Prelude.{◌≡◌, ◌-◌};
 ghost use Rattle.format.specs.Rules.{clash, collides_among};
 ghost use Rattle.states.specs.Lookback.{packets_before};

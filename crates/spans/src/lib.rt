@@ -2,6 +2,8 @@
 //
 // The promise says what stands in the bytes, whatever they are (specs/Spans.antt). A packet that is counted here keeps its rules, field by field: that is a law above
 // this crate. One that is not counted is left to the machine, which finds its refusal.
+#![tactic(auto)]
+
 ghost use Rattle.std.specs.Prelude.{◌≡◌, true, ◌+◌, ◌*◌, ◌/◌, ◌%◌, ◌^◌, ◌≤◌};
 ghost use Rattle.bodies.specs.Bodies.{sized_by};
 ghost use Rattle.spans.specs.Spans.{plain, scaled_by, user_at, national_at, kind_at, packet_at};

@@ -1,0 +1,9 @@
+-- `sheet_rows::value::value_at` meets its contract. Assumes nothing.
+use Rattle.sheet.proofs.Table.{a_radio, no_radio}
+use Rattle.sheet_rows.proofs.value.value_at.Goals as goal
+
+pub returns-then-k-eq-RADIO : goal.returns-then-k-eq-RADIO
+returns-then-k-eq-RADIO c = rw (a_radio c.args.k c.if-k-eq-RADIO.true) c.places_at.ensures
+
+pub returns : goal.returns
+returns c = rw (no_radio c.args.k c.if-k-eq-RADIO.false) c.decimal_at.ensures
