@@ -347,7 +347,10 @@ def needed(head, text):
         for name in found[2].split(", "):
             shown = name.split(" as ")[-1].strip()
             pieces = [p for p in shown.split("◌") if p]
-            if "◌" in shown:
+            if shown == "[]":
+                if "[]" in text:
+                    keep.append(name)
+            elif "◌" in shown:
                 if shown in words or pieces and all(p in ops for p in pieces) or not pieces:
                     keep.append(name)
             elif shown in words or shown in ops:

@@ -6,6 +6,7 @@ use Prim.Native.Nat.{ℕ, ◌≤◌}
 use native.Mathlib.Omega.{arith}
 use borrow.Author.Tests.{ltb-true, ltb-false}
 use lib.Dec.{ltb}
+use Rattle.blocks.specs.contracts as promises
 use Rattle.bits.proofs.Once.{OneOutcome, OneOutcomeGiven}
 use Rattle.blocks.specs.Reading.{Steps, arrived_at, arrived_line}
 use Rattle.blocks.specs.declared.Filled.{Filled}
@@ -13,7 +14,7 @@ use Rattle.blocks.specs.declared.Input.{Input}
 use Rattle.blocks.proofs.start
 use Rattle.blocks.proofs.next
 
-pub start_once : OneOutcome start.ended start.Reads.Post
+pub start_once : OneOutcome promises.start.ended start.Reads.Post
 start_once κs args r t u v p q = (p ∙ sym q, refl)
 
 -- what the outside brings where a block is read: what the block then holds, and how many bytes came, or that none could be read
@@ -46,9 +47,9 @@ module _ {block line : List ℕ} {i r t : Input} {b c l m : List ℕ} (h : Steps
             k.text ∙ ap₂ (λ (d : List ℕ) (z : Filled). arrived_line d line i z) same got ∙ sym n.text,
           )
 
-pub next_once : OneOutcomeGiven next.ended next.Reads.Post (λ κs args r s p. brought p)
+pub next_once : OneOutcomeGiven promises.next.ended next.Reads.Post (λ κs args r s p. brought p)
 next_once κs args r t u v p q e =
     let same = same_step p q e in (
       same.0,
-      ap₂ (λ (block line : List ℕ). (block, (line, u.1.1))) same.1 same.2,
+      ap₂ (λ (block line : List ℕ). (u.0, (block, (line, u.1.1.1)))) same.1 same.2,
     )

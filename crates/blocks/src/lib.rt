@@ -1,11 +1,14 @@
 // Lines out of blocks of standard input. A line may reach over any number of blocks; of each, as many characters are kept as are lent
 // for it. Every public function answers every input.
+#![tactic(auto)]
+
 ghost use Rattle.std.specs.Prelude.{◌≡◌, ◌≤◌, length};
 ghost use Rattle.blocks.specs.Reading.{nothing, stopped, Keeps, Held, TakesOn, Arrives, Steps};
 
 mod reads;
 
 use crate::reads::read;
+use std::io::Stdin;
 use word64::lower;
 
 // How many bytes were read, or that a read failed.
@@ -44,7 +47,7 @@ pub fn start() -> Input
 
 // One step on: takes on the rest of the block up to the next newline, or reads a block where nothing is left of the one before. A last
 // line with no newline is whole if any of it is kept; a line whose rest cannot be read never is. Behind the end there is no step.
-pub fn next(block: &mut [u8], line: &mut [u8], input: Input) -> Input
+pub fn next(stdin: Stdin, block: &mut [u8], line: &mut [u8], input: Input) -> Input
     ensures { Steps block.old line.old input result block.new line.new }
 {
     if input.ended {
@@ -53,7 +56,7 @@ pub fn next(block: &mut [u8], line: &mut [u8], input: Input) -> Input
     if input.from < input.to {
         return take_on(block, line, input);
     }
-    let got = read(block);
+    let got = read(stdin, block);
     arrived(block, line, input, got)
 }
 

@@ -2,15 +2,15 @@
 ghost use Rattle.blocks.specs.Reading.{Within};
 
 use crate::Filled;
-use libc::STDIN_FILENO;
+use std::io::{Read, Stdin};
 
 // Reads once into the front of the buffer.
-pub(crate) fn read(buffer: &mut [u8]) -> Filled
+pub(crate) fn read(stdin: Stdin, buffer: &mut [u8]) -> Filled
     ensures { Within buffer.new result }
 {
-    let got = libc::read(STDIN_FILENO, buffer);
-    if got < 0 {
-        return Filled::Failed;
+    let mut input = stdin;
+    match input.read(buffer) {
+        Ok(n) => Filled::Bytes(n),
+        Err(_) => Filled::Failed,
     }
-    Filled::Bytes(io::count(got, buffer))
 }

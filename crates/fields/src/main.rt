@@ -1,7 +1,9 @@
 // Takes and puts a table of fields with the compiled code, and prints what each answers: fields inside a byte, over a byte's
 // edge and over nine bytes, fields of no bits, and whatever is no field, up to the largest numbers there are.
 use bits::{Cursor, Taken};
-use libc::STDOUT_FILENO;
+
+// The number of standard output.
+const STDOUT: i32 = 1;
 
 fn main() {
     takes();
@@ -61,10 +63,10 @@ fn take_row(n: usize, at: usize, width: usize) {
             word(b", next ", next.at as u64);
         }
         Taken::Short => {
-            io::write_all(STDOUT_FILENO, b": short");
+            io::write_all(STDOUT, b": short");
         }
     }
-    io::write_all(STDOUT_FILENO, b"\n");
+    io::write_all(STDOUT, b"\n");
 }
 
 // Puts the field over nine bytes of 165, so that a neighbour that changes shows, whichever way.
@@ -74,24 +76,24 @@ fn put_row(at: usize, width: usize, value: u64) {
     word(b" width ", width as u64);
     word(b" value ", value);
     if store::put(&mut out, at, width, value) {
-        io::write_all(STDOUT_FILENO, b": wrote");
+        io::write_all(STDOUT, b": wrote");
     } else {
-        io::write_all(STDOUT_FILENO, b": left ");
+        io::write_all(STDOUT, b": left ");
     }
     print_bytes(&out);
 }
 
 fn word(text: &[u8], n: u64) {
-    io::write_all(STDOUT_FILENO, text);
-    io::print_decimal(STDOUT_FILENO, n);
+    io::write_all(STDOUT, text);
+    io::print_decimal(STDOUT, n);
 }
 
 fn print_bytes(s: &[u8]) {
     let mut i = 0;
     while i < s.len() {
-        io::write_all(STDOUT_FILENO, b" ");
-        io::print_hex(STDOUT_FILENO, s[i] as u64, 2);
+        io::write_all(STDOUT, b" ");
+        io::print_hex(STDOUT, s[i] as u64, 2);
         i += 1;
     }
-    io::write_all(STDOUT_FILENO, b"\n");
+    io::write_all(STDOUT, b"\n");
 }

@@ -11,12 +11,14 @@ ghost use Rattle.line_by_line.specs.Running.{reply, Answered};
 ghost use Rattle.queue.specs.Waiting.{Joins};
 
 use blocks::Input;
-use libc::STDERR_FILENO;
 use queue::Queue;
+
+// The number of standard error.
+const STDERR: i32 = 2;
 
 // A proved loop has to end, and nothing says that the input does. So the loop counts its turns down, from a number that no run
 // uses up.
-fn main() {
+fn main(rt: HostRuntime) {
     let mut block = io::large_buffer();
     let mut line = io::large_buffer();
     let mut out = [0u8; 4096];
@@ -27,7 +29,7 @@ fn main() {
     };
     let mut turns = u64::MAX;
     while line_by_line::goes_on(input, q, turns) {
-        input = blocks::next(&mut block, &mut line, input);
+        input = blocks::next(rt.stdin(), &mut block, &mut line, input);
         q = answered(&line, input, &mut out, q);
         turns -= 1;
     }
@@ -53,9 +55,9 @@ fn finish(out: &[u8], input: Input, q: Queue)
 {
     let last = queue::flush(out, q);
     if input.failed {
-        io::write_all(STDERR_FILENO, b"groups: reading failed\n");
+        io::write_all(STDERR, b"groups: reading failed\n");
     }
     if last.lost {
-        io::write_all(STDERR_FILENO, b"groups: writing failed\n");
+        io::write_all(STDERR, b"groups: writing failed\n");
     }
 }

@@ -7,12 +7,14 @@ ghost use Rattle.line_by_line.specs.Running.{reply, Answered};
 ghost use Rattle.queue.specs.Waiting.{Joins};
 
 use blocks::Input;
-use libc::STDERR_FILENO;
 use queue::Queue;
+
+// The number of standard error.
+const STDERR: i32 = 2;
 
 // A proved loop has to end, and nothing says that the input does. So the loop counts its turns down, from a number that no run
 // uses up.
-fn main() {
+fn main(rt: HostRuntime) {
     let mut block = io::large_buffer();
     let mut line = answers::line_buffer();
     let mut out = [0u8; 4096];
@@ -23,7 +25,7 @@ fn main() {
     };
     let mut turns = u64::MAX;
     while line_by_line::goes_on(input, q, turns) {
-        input = blocks::next(&mut block, &mut line, input);
+        input = blocks::next(rt.stdin(), &mut block, &mut line, input);
         q = answered(&line, input, &mut out, q);
         turns -= 1;
     }
@@ -49,9 +51,9 @@ fn finish(out: &[u8], input: Input, q: Queue)
 {
     let last = queue::flush(out, q);
     if input.failed {
-        io::write_all(STDERR_FILENO, b"lines: reading failed\n");
+        io::write_all(STDERR, b"lines: reading failed\n");
     }
     if last.lost {
-        io::write_all(STDERR_FILENO, b"lines: writing failed\n");
+        io::write_all(STDERR, b"lines: writing failed\n");
     }
 }

@@ -5,8 +5,10 @@
 ghost use Rattle.std.specs.Prelude.{◌≡◌, true, [], ◌∷◌, ◌+◌, ◌≤◌, length};
 ghost use Rattle.queue.specs.Waiting.{Joins, Flushed};
 
-use libc::STDOUT_FILENO;
 use word64::lower;
+
+// The number of standard output.
+const STDOUT: i32 = 1;
 
 // How many characters wait at the front of the array, and whether some could not be written.
 #[derive(Clone, Copy)]
@@ -53,7 +55,7 @@ pub fn flush(out: &[u8], q: Queue) -> Queue
             lost: q.lost,
         };
     }
-    let wrote = io::write_all(STDOUT_FILENO, &out[..n]);
+    let wrote = io::write_all(STDOUT, &out[..n]);
     let lost = if wrote { q.lost } else { true };
     Queue { waiting: 0, lost }
 }

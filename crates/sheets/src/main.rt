@@ -9,7 +9,14 @@ mod answer;
 use crate::answer::{from_start_of_line, from_start_of_sheet};
 use blocks::Filled;
 use filling::fill;
-use libc::{STDERR_FILENO, STDOUT_FILENO};
+use std::env::{Env, FillError};
+use std::io::Stdin;
+
+// The number of standard output.
+const STDOUT: i32 = 1;
+
+// The number of standard error.
+const STDERR: i32 = 2;
 
 // What the arguments ask for.
 #[derive(Drop)]
@@ -19,23 +26,35 @@ enum Way {
     Other,
 }
 
-fn main() {
-    match asked() {
-        Way::Out => out(),
-        Way::In => take_in(),
+fn main(rt: HostRuntime) {
+    match asked(rt) {
+        Way::Out => out(rt.stdin()),
+        Way::In => take_in(rt.stdin()),
         Way::Other => usage(),
     }
 }
 
 // The program's name is an argument too. A word of more than three characters, which is neither of the two, finds no room and is taken as
 // an empty one.
-fn asked() -> Way {
-    if os::arg_count() != 2 {
+fn asked(rt: HostRuntime) -> Way {
+    let mut space = [0u8; 3];
+    if is_there(rt, 2) {
         return Way::Other;
     }
+    match rt.arg(1, &mut space) {
+        Ok(n) => meant(&space[..n]),
+        Err(_) => Way::Other,
+    }
+}
+
+// Whether the program has an argument of this number.
+fn is_there(rt: HostRuntime, number: usize) -> bool {
     let mut space = [0u8; 3];
-    let n = os::arg(1, &mut space);
-    meant(&space[..n])
+    match rt.arg(number, &mut space) {
+        Ok(_) => true,
+        Err(FillError::TooLong) => true,
+        Err(FillError::NotPresent) => false,
+    }
 }
 
 fn meant(word: &[u8]) -> Way {
@@ -56,9 +75,9 @@ fn is(word: &[u8], other: &[u8]) -> bool {
 }
 
 // No more of a line is read than tells what is printed for it.
-fn out() {
+fn out(stdin: Stdin) {
     let mut input = printed::line_buffer();
-    let Filled::Bytes(n) = fill(&mut input) else {
+    let Filled::Bytes(n) = fill(stdin, &mut input) else {
         return unread();
     };
     let mut text = io::large_buffer();
@@ -68,9 +87,9 @@ fn out() {
 
 // A header takes 21 bytes and no row more than 43. So 35,712 bytes tell whether each of 830 rows is one and whether more follows, and no
 // more than a buffer is read.
-fn take_in() {
+fn take_in(stdin: Stdin) {
     let mut input = io::large_buffer();
-    let Filled::Bytes(n) = fill(&mut input) else {
+    let Filled::Bytes(n) = fill(stdin, &mut input) else {
         return unread();
     };
     let mut text = [0u8; 1024];
@@ -94,7 +113,7 @@ fn print_line(text: &[u8])
 
 // An input that cannot be read to its end gets no answer.
 fn unread() {
-    io::write_all(STDERR_FILENO, b"sheets: reading failed\n");
+    io::write_all(STDERR, b"sheets: reading failed\n");
 }
 
 fn usage() {
@@ -103,7 +122,7 @@ fn usage() {
 
 // A write that fails is told: a part of a sheet does not say that it is one.
 fn print(text: &[u8]) {
-    if !io::write_all(STDOUT_FILENO, text) {
-        io::write_all(STDERR_FILENO, b"sheets: writing failed\n");
+    if !io::write_all(STDOUT, text) {
+        io::write_all(STDERR, b"sheets: writing failed\n");
     }
 }

@@ -1,4 +1,6 @@
 // Checking, reading, writing, labelling and normalising telegrams, by one machine.
+#![tactic(auto)]
+
 mod answer;
 mod driver;
 mod earlier;

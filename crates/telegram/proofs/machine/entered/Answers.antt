@@ -1,0 +1,38 @@
+-- `telegram::machine::entered` meets its contract: what is to be sent, what is noted and what is tested, one after the other. Assumes nothing.
+use native.Mathlib.Omega.{arith}
+use Rattle.states.proofs.Stepping.{entered_mark, entered_on, width_in}
+use Rattle.format.specs.Table.{field_at}
+use Rattle.telegram.proofs.machine.entered.Goals as goal
+
+pub noted-n-requires : goal.noted-n-requires
+noted-n-requires c = tt
+
+pub overflow_add-n : goal.overflow_add-n
+overflow_add-n c =
+    let a = c in
+    let w = width_in (field_at a.args.s.todo.node) in
+    omega (arith, a.requires.low, c.noted-n.ensures.here, c.width.ensures)
+
+pub settled-requires : goal.settled-requires
+settled-requires c =
+    let a = c in
+    let n = c.noted-n.ensures in
+    let first : _ = a.requires.sound.first in
+    record {
+      table = a.requires.table;
+      sound = record {
+        tidy = (rw c.in-On.is at c.advance.ensures).tidy;
+        first = omega (arith, a.requires.sound.first, n.here, n.first);
+        second = omega (arith, n.second a.requires.sound.second, n.here);
+      };
+    }
+
+pub returns-in-Mark : goal.returns-in-Mark
+returns-in-Mark c = let a = c.args in entered_mark a.s a.v (rw c.in-Mark.is at c.advance.ensures)
+
+pub returns-in-On : goal.returns-in-On
+returns-in-On c =
+    let a = c.args in
+    let n = c.noted-n in
+    entered_on a.s a.v _ n.result _ c.settled.result (rw c.in-On.is at c.advance.ensures)
+    (rw (← c.code.ensures) n.ensures) (omega (arith, n.ensures.here, c.width.ensures)) c.settled.ensures

@@ -1,0 +1,6 @@
+-- `telegram::state::begin` meets its contract. Assumes nothing.
+use Rattle.states.proofs.Fronting.{first_begins}
+use Rattle.telegram.proofs.state.begin.Goals as goal
+
+pub returns : goal.returns
+returns c = first_begins
