@@ -13,7 +13,7 @@ import re
 import sys
 
 DECL = re.compile(r"(?m)^(?:abbrev )?(?:pub )?(\S+) :(?= |$)|^module _ ")
-PLAIN = re.compile(r"(search rules|omega arith|\(omega arith(, omega arith)*\)|search \(rules\)|grind arith|\(search rules(, search rules)*\))")
+PLAIN = re.compile(r"(tt|search rules|omega arith|\(omega arith(, omega arith)*\)|search \(rules\)|grind arith|\(search rules(, search rules)*\))")
 
 
 def read(path):
@@ -178,12 +178,12 @@ class Helpers:
         block = re.sub(r"\A(?:--[^\n]*\n)+", "", block)
         section = re.match(r"(?s)module _ \(c : tie\.[^)]*\) where\n(.*)", block)
         if section:
-            inner = re.split(r"\n(?=  (?:pub )?\S+ : )", "\n" + section[1])
+            inner = re.split(r"\n(?=  (?:abbrev )?(?:pub )?\S+ : )", "\n" + section[1])
             for each in inner:
                 if each.strip():
                     lines = "\n".join(l[2:] if l.startswith("  ") else l for l in each.strip("\n").split("\n"))
-                    lines = re.sub(r"(?m)^--[^\n]*\n", "", lines)
-                    found = re.match(r"(?s)(?:pub )?(\S+) : (.*?)\n(unfolding [^\n]*\n)?\1((?: [^\s=]+)*) =(.*)", lines)
+                    lines = re.sub(r"(?m)^--[^\n]*(?:\n|\Z)", "", lines)
+                    found = re.match(r"(?s)(?:abbrev )?(?:pub )?(\S+) : (.*?)\n(unfolding [^\n]*\n)?\1((?: [^\s=]+)*) =(.*)", lines)
                     if not found or found[3]:
                         return False
                     self.keep(found[1], found[2], found[4].split(), found[5])
@@ -247,6 +247,16 @@ def turn(landed, crate, module, folder, of):
         return
     kept_head = [l for l in head if not re.search(r"\.(Statement\.\{statement\}|Tie as tie)$", l)]
     answers, invariants, lemmas, helpers = [], [], [], Helpers(fn)
+    # values with no name are numbered, and not as they were
+    numbered = re.compile(r"(\w+)-t\d+(-\d+)?")
+    was = [re.sub("^Need-", "", k.split()[0]) for k in kinds.values()]
+    for op in ("add", "sub", "mul", "shl", "shr", "cast"):
+        old = [k for k in was if numbered.fullmatch(k) and k.startswith(op + "-")]
+        now = [k for k in fn.needs if numbered.fullmatch(k) and k.startswith(op + "-")]
+        if len(old) == len(now):
+            again = {plain(a): (fn.needs[b], fn.typed_at.get(b, {})) for a, b in zip(old, now)}
+            for a, (need, typed) in again.items():
+                fn.needs[a], fn.typed_at[a] = need, typed
     inner = [b for b in parts if "tie.close" not in b]
     for block in ours:
         name = name_of(block)

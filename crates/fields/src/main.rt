@@ -1,5 +1,7 @@
 // Takes and puts a table of fields with the compiled code, and prints what each answers: fields inside a byte, over a byte's
 // edge and over nine bytes, fields of no bits, and whatever is no field, up to the largest numbers there are.
+#![tactic(auto)]
+
 use bits::{Cursor, Taken};
 
 // The number of standard output.

@@ -1,5 +1,7 @@
 // What programs share that answer standard input line by line: when they read on, and, in specs/ and proofs/, that what they write is the
 // answers to all lines, one behind the other.
+#![tactic(auto)]
+
 ghost use Rattle.std.specs.Prelude.{◌≡◌};
 ghost use Rattle.line_by_line.specs.Running.{goes_on};
 

@@ -4,9 +4,6 @@ use Rattle.states.proofs.Stepping.{entered_mark, entered_on, width_in}
 use Rattle.format.specs.Table.{field_at}
 use Rattle.telegram.proofs.machine.entered.Goals as goal
 
-pub noted-n-requires : goal.noted-n-requires
-noted-n-requires c = tt
-
 pub overflow_add-n : goal.overflow_add-n
 overflow_add-n c =
     let a = c in

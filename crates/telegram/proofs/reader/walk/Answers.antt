@@ -1,5 +1,6 @@
 -- `telegram::reader::walk` meets its contract. The loop's invariant, `Scans`: what the definition answers from the start is what it answers
 -- from here, after the entries so far. The measure is how many bits are left. Assumes nothing.
+use mathlib.Core.List.{[]}
 use mathlib.Core.Path.{sym, ap, ◌∙◌}
 use native.Mathlib.Omega.{arith}
 use borrow.Author.Rules.{rules}
@@ -135,6 +136,11 @@ pub returns-in-Breaks : goal.returns-in-Breaks
 returns-in-Breaks c =
     let i = scans_drifted c.loop-after.invariant c.drift-g.ensures in
     c.refused-in-Breaks.ensures [] ∙ sym (ap answer_of (ends_broken i c.width.ensures c.take.ensures c.in-Field.is (scans_passed i _ c.repeated_in_bits.ensures c.step.ensures) c.in-Breaks.is))
+
+pub overflow_add-result : goal.overflow_add-result
+overflow_add-result c =
+    let i = scans_drifted c.loop-after.invariant c.drift-g.ensures in
+    omega (arith, i.few, i.within, i.low)
 
 pub returns-then-next-n : goal.returns-then-next-n
 returns-then-next-n c =

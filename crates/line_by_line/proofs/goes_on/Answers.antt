@@ -6,8 +6,7 @@ use lib.Dec.{ltb}
 use Rattle.blocks.specs.declared.Input.{Input}
 use Rattle.queue.specs.declared.Queue.{Queue}
 use Rattle.line_by_line.specs.Running.{goes_on}
-use Rattle.line_by_line.proofs.goes_on.Statement.{statement}
-use Rattle.line_by_line.proofs.goes_on.Tie as tie
+use Rattle.line_by_line.proofs.goes_on.Goals as goal
 
 module _ (i : Input) (q : Queue) (turns : ℕ) where
   behind_loss : q.lost ≡ true → false ≡ goes_on i q turns
@@ -19,14 +18,11 @@ module _ (i : Input) (q : Queue) (turns : ℕ) where
   before_end : q.lost ≡ false → i.ended ≡ false → ltb 0 turns ≡ goes_on i q turns
   before_end l e = rw (l, e)
 
-returns : tie.Need-returns
-returns c = behind_loss c.before.args.input c.before.args.q c.before.args.turns c.if1.true
+pub returns-then-q : goal.returns-then-q
+returns-then-q c = behind_loss c.args.input c.args.q c.args.turns c.if-q.true
 
-returns-2 : tie.Need-returns-2
-returns-2 c = behind_end c.before.before.args.input c.before.before.args.q c.before.before.args.turns c.before.if1.false c.if2.true
+pub returns-then-input : goal.returns-then-input
+returns-then-input c = behind_end c.args.input c.args.q c.args.turns c.if-q.false c.if-input.true
 
-returns-3 : tie.Need-returns-3
-returns-3 c = before_end c.before.before.args.input c.before.before.args.q c.before.before.args.turns c.before.if1.false c.if2.false
-
-pub goes-on-spec : {M : Type 1} → statement M
-goes-on-spec = tie.close (tie.spec returns returns-2 returns-3)
+pub returns : goal.returns
+returns c = before_end c.args.input c.args.q c.args.turns c.if-q.false c.if-input.false
