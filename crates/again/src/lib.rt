@@ -1,5 +1,7 @@
 // Demand 2, by the promises of `telegram` alone: what is read and written again is the same telegram; what is written and read again
 // is the same list of values. Demand 3 is in `normals` and `alike`.
+#![tactic(auto)]
+
 ghost use Rattle.format.specs.Rules.{paper};
 ghost use Rattle.again.specs.Again.{Rewritten, Reread};
 

@@ -1,4 +1,6 @@
 // What is answered to a line that writes a telegram as characters 0 and 1: whether it is one.
+#![tactic(auto)]
+
 ghost use Rattle.std.specs.Prelude.{◌≡◌, length};
 ghost use Rattle.answers.specs.Lines.{answer_to, no_telegram};
 ghost use Rattle.answers.specs.Text.{accepted, text_of, response_to, TellsLine};

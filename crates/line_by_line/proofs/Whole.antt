@@ -101,8 +101,8 @@ module _ (f : List ℕ → List ℕ) (line : List ℕ) (i : Input) where
 -- one turn: a step of reading, and the answer to the line in hand, if it is whole
 module _ {f : List ℕ → List ℕ} {block line out block' line' out' : List ℕ} {i r : Input} {q t : Queue}
     (p : Runs f block line i out q) (o : i.ended ≡ false) where
-  goes_on : block' ≡ block → i.from < i.to → TakesOn block line i r line' → Joins (reply f line' r) q out t out' → Runs f block' line' r out' t
-  goes_on e l s j =
+  goes_taking : block' ≡ block → i.from < i.to → TakesOn block line i r line' → Joins (reply f line' r) q out t out' → Runs f block' line' r out' t
+  goes_taking e l s j =
       rw e (record { came = _; gone = _; ran = goes p.ran o l s j; enough = enough_as (sym (takes_length s)) (sym (joins_length j)) p.enough })
 
   goes_reading : i.to ≤ i.from → Arrival block' line i r line' → Joins (reply f line' r) q out t out' → Runs f block' line' r out' t
@@ -119,7 +119,7 @@ module _ {f : List ℕ → List ℕ} {block line out block' line' out' : List �
     where
       by : Dec (i.to ≤ i.from) → Runs f block' line' r out' t
       by (yes l) = goes_reading l (s.reads o l) j
-      by (no l) = let m = lt_of_not-le l in goes_on (s.goes o m).0 m (s.goes o m).1 j
+      by (no l) = let m = lt_of_not-le l in goes_taking (s.goes o m).0 m (s.goes o m).1 j
 
 pub runs_answered : {f : List ℕ → List ℕ} {block line out : List ℕ} {i : Input} {q : Queue} → Runs f block line i out q → Answered f i out q
 runs_answered {block = block} {line = line} p =

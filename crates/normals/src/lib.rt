@@ -1,5 +1,7 @@
 // Demand 3, by the promise of `telegram::normalise` alone: normalising again changes nothing. That two telegrams say the same exactly when their normal
 // forms have the same bits is in `alike`.
+#![tactic(auto)]
+
 ghost use Rattle.format.specs.Rules.{paper};
 ghost use Rattle.normals.specs.Normals.{Renormalised};
 

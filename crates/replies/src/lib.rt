@@ -1,4 +1,6 @@
 // What reading, normalising and writing answer, as text.
+#![tactic(auto)]
+
 ghost use Rattle.queue.specs.Waiting.{Joins};
 ghost use Rattle.replies.specs.Replies.{read_text, normal_text, write_text, bits_text};
 

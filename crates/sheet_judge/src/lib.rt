@@ -1,4 +1,6 @@
 // The rows of a sheet, once they are read, judged as a telegram: the writer on the value column, then the names.
+#![tactic(auto)]
+
 ghost use Rattle.sheet.specs.Steps.{Judged, Other};
 
 use format::{Answer, Kind, Refusal};

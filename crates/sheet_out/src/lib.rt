@@ -1,4 +1,6 @@
 // A telegram written as its sheet.
+#![tactic(auto)]
+
 ghost use Rattle.format.specs.Rules.{paper};
 ghost use Rattle.sheet.specs.Sheets.{Export};
 ghost use Rattle.sheet.specs.Steps.{Listing, Columns, RowsPut, Wrote};

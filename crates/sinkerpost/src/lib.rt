@@ -1,4 +1,6 @@
 // Checking and normalising for C: byte buffers, a bit count, and one number as the answer.
+#![tactic(auto)]
+
 ghost use Rattle.std.specs.Prelude.{◌≡◌};
 ghost use Rattle.format.specs.Rules.{paper};
 ghost use Rattle.format.specs.Refusals.{code_of};
