@@ -320,6 +320,8 @@ def invariant(crate, module, fn, kind, loop, now, lead, rest):
         print(f"left: {crate}::{module}: no loop {loop}")
         return ("", "")
     new, variables, changed = found
+    if variables[:1] == ["rt"]:
+        variables, changed = variables[1:], changed[1:]
     name = ("invariant-" if kind == "InvT" else "decreases-") + new
     rest = re.sub(r"(?s)^(?:abbrev )?(?:pub )?\S+ : ?\n? *tie\.[^\n]*\n", "", rest, count=1)
     unfolds = ""

@@ -1,4 +1,6 @@
 // Demand 3, by the promises of `telegram` alone: two telegrams say the same exactly when their normal forms have the same bits.
+#![tactic(auto)]
+
 ghost use Rattle.format.specs.Rules.{paper};
 ghost use Rattle.normals.specs.Normals.{Ready};
 ghost use Rattle.alike.specs.Pairs.{SaysSame};

@@ -1,4 +1,6 @@
 // The telegrams of a group in order of arrival, each checked as a telegram by itself.
+#![tactic(auto)]
+
 ghost use Rattle.std.specs.Prelude.{◌≡◌, ◌+◌, ◌-◌, ◌≤◌, length, take, drop};
 ghost use Rattle.format.specs.Rules.{paper};
 ghost use Rattle.states.specs.Reader.{checked, answer_of};

@@ -9,8 +9,7 @@ use message::message;
 use word64::lower;
 
 // Lists the packets of a group's message: how many there are, or its refusal, which leaves both runs as they were.
-#[unsafe(no_mangle)]
-pub extern "C" fn sinkerpost_group(
+pub fn sinkerpost_group(
     bytes: &[u8],
     ns: &[usize],
     pigs: &mut [u8],

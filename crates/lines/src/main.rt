@@ -1,6 +1,8 @@
 // Reads telegrams from standard input, one a line as characters 0 and 1, and prints for each whether it is one.
 //
 // Of a line that may reach over any number of blocks, as many characters are kept as tell its answer.
+#![tactic(auto)]
+
 ghost use Rattle.std.specs.Prelude.{◌≤◌, length};
 ghost use Rattle.answers.specs.Text.{response_to};
 ghost use Rattle.line_by_line.specs.Running.{reply, Answered};

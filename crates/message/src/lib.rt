@@ -2,12 +2,12 @@
 ghost use Rattle.format.specs.Rules.{paper};
 ghost use Rattle.group.specs.Groups.{Replied};
 
-use crate::passing::collided;
+use crate::passed::collided;
 use crate::storing::store;
 use group::{Cause, Fault, Reply, Verdict};
 use verdicts::judge;
 
-mod passing;
+mod passed;
 mod storing;
 
 // Whether packets collide with earlier ones: so many do not; or the first that does, with its N_PIG and the bit of its Q_DIR.

@@ -3,9 +3,10 @@
 use mathlib.Core.Path.{sym, ap, ◌∙◌}
 use mathlib.Core.List.{List}
 use Prim.Native.Nat.{ℕ}
+use Rattle.printed.specs.contracts as promises
 use Rattle.bits.proofs.Once.{OneOutcome}
 use Rattle.printed.proofs.from_line
 
-pub from_line_once : OneOutcome from_line.ended from_line.Reads.Post
+pub from_line_once : OneOutcome promises.from_line.ended from_line.Reads.Post
 from_line_once κs args r t u v p q =
     (p.here ∙ sym q.here, ap (λ (out : List ℕ). (u.0, (out, u.1.1))) (p.is ∙ sym q.is))

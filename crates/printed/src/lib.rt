@@ -1,4 +1,6 @@
 // What the program `sheets` prints for a line, put into a text; for a sheet it is `printed_in`. Every input and every room has its answer.
+#![tactic(auto)]
+
 ghost use Rattle.std.specs.Prelude.{◌≡◌, ◌≤◌, length};
 ghost use Rattle.pieces.specs.Pieces.{Grown};
 ghost use Rattle.format.specs.declared.Kind.TheVariants.{Size};

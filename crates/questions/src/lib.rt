@@ -1,4 +1,6 @@
 // Questions to the library, one a line, and what is answered to them: `r` and bits, `n` and bits, `w` and decimal values.
+#![tactic(auto)]
+
 ghost use Rattle.queue.specs.Waiting.{Joins};
 ghost use Rattle.questions.specs.Questions.{reply_to, bits_behind, values_behind};
 

@@ -1,4 +1,6 @@
 // A sheet taken as a telegram: the rows, then the writer on the value column, then the names.
+#![tactic(auto)]
+
 ghost use Rattle.std.specs.Prelude.{◌≡◌, true};
 ghost use Rattle.format.specs.Rules.{paper};
 ghost use Rattle.pieces.specs.Pieces.{begins};

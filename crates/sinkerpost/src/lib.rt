@@ -9,16 +9,14 @@ ghost use Rattle.sinkerpost.specs.Codes.{check_code, Normalise, Placed};
 use format::Answer;
 
 // Whether the bytes and n are a telegram: 0, or its refusal.
-#[unsafe(no_mangle)]
-pub extern "C" fn sinkerpost_check(bytes: &[u8], n: u64) -> u64
+pub fn sinkerpost_check(bytes: &[u8], n: u64) -> u64
     ensures { result ≡ check_code paper bytes.now n }
 {
     code(telegram::check(bytes, n as usize))
 }
 
 // Writes the normal form of a telegram into out: 0, or its refusal, which leaves out as it was.
-#[unsafe(no_mangle)]
-pub extern "C" fn sinkerpost_normalise(bytes: &[u8], n: u64, out: &mut [u8]) -> u64
+pub fn sinkerpost_normalise(bytes: &[u8], n: u64, out: &mut [u8]) -> u64
     ensures { Normalise paper bytes.now n out.old result out.new }
 {
     code(telegram::normalise(bytes, n as usize, out))

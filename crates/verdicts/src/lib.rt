@@ -1,5 +1,7 @@
 // The tests of a group one after the other, up to that for packets that collide: the room, each telegram by itself, then whether they are one group,
 // their counters, and what their M_DUP name.
+#![tactic(auto)]
+
 ghost use Rattle.std.specs.Prelude.{◌≡◌};
 ghost use Rattle.group.specs.Walks.{Arrives, group_verdict, telegrams_of, verdict_of};
 
