@@ -121,12 +121,12 @@ class Function:
                 return [arm, field] + rest[len(path) :]
         if step not in self.steps and re.fullmatch(r".*\d", step) and re.sub(r"\d+$", "", step) in self.steps:
             step = re.sub(r"\d+$", "", step)
-        if rest[:1] == ["new"] and self.callees.get(step):
+        if rest[:1] in (["new"], ["auto"]) and self.callees.get(step):
             at = 1
             while rest[at : at + 1] == ["1"]:
                 at += 1
             if rest[at : at + 1] == ["0"] and at - 1 < len(self.callees[step]):
-                rest = ["new", self.callees[step][at - 1]] + rest[at + 1 :]
+                rest = [rest[0], self.callees[step][at - 1]] + rest[at + 1 :]
         return [self.steps.get(step, parts[0])] + rest
 
 

@@ -1,4 +1,6 @@
 // A balise group as one message: the packets that its telegrams send together, or why there is no message.
+#![tactic(auto)]
+
 ghost use Rattle.format.specs.Rules.{paper};
 ghost use Rattle.group.specs.Groups.{Replied};
 

@@ -1,4 +1,6 @@
 // What the program `sheets` prints for a sheet, put into a text. Every input and every room has its answer.
+#![tactic(auto)]
+
 ghost use Rattle.std.specs.Prelude.{length};
 ghost use Rattle.pieces.specs.Pieces.{Grown};
 ghost use Rattle.printed_in.specs.Sheet.{in_into};

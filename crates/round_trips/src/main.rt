@@ -1,5 +1,7 @@
 // Runs each round trip of `again`, `normals` and `alike` over a table of telegrams: with too little room in the one buffer, in the other, and then with just
 // enough in both. Prints what it answers and all that it leaves. What is lent is full of one number, so that whatever changes shows.
+#![tactic(auto)]
+
 mod show;
 
 use show::{answer, asked, compared, print_bytes, print_run};

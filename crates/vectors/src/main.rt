@@ -8,6 +8,8 @@
 // space may stay. The answer to any other line is `not a question`, and so it is to more than 1,000 bits or values,
 // to a number past 64 bits, and to a line of more than 65,535 characters: a question has so many only with thousands of needless
 // zeros.
+#![tactic(auto)]
+
 ghost use Rattle.std.specs.Prelude.{◌≡◌, ◌≤◌, length};
 ghost use Rattle.line_by_line.specs.Running.{reply, Answered};
 ghost use Rattle.queue.specs.Waiting.{Joins};
