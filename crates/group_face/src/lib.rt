@@ -1,4 +1,6 @@
 // The message of a balise group for C: byte buffers, a list of n, and one number as the answer.
+#![tactic(auto)]
+
 ghost use Rattle.std.specs.Prelude.{◌≡◌};
 ghost use Rattle.format.specs.Rules.{paper};
 ghost use Rattle.group_face.specs.GroupCodes.{GroupAnswer, group_code};
@@ -9,12 +11,7 @@ use message::message;
 use word64::lower;
 
 // Lists the packets of a group's message: how many there are, or its refusal, which leaves both runs as they were.
-pub fn sinkerpost_group(
-    bytes: &[u8],
-    ns: &[usize],
-    pigs: &mut [u8],
-    numbers: &mut [u8],
-) -> u64
+pub fn sinkerpost_group(bytes: &[u8], ns: &[usize], pigs: &mut [u8], numbers: &mut [u8]) -> u64
     ensures { GroupAnswer paper bytes.now ns.now pigs.old numbers.old result pigs.new numbers.new }
 {
     code(message(bytes, ns, pigs, numbers))

@@ -5,7 +5,7 @@ use mathlib.Core.List.{List}
 use Prim.Native.Nat.{ℕ, ◌≤◌, ◌<◌}
 use native.Mathlib.Nat.{lt_of_not-le}
 use native.Mathlib.Omega.{arith}
-use borrow.Author.Tests.{le-ltb, lt-ltb, not-false}
+use borrow.Author.Tests.{le-ltb, lt-ltb, not-true, not-false}
 use lib.ListN.{length, take}
 use lib.Seq.{length-take-le}
 use Rattle.blocks.specs.declared.Input.{Input}
@@ -34,7 +34,7 @@ module _ (line : List ℕ) (i : Input) (room : 65536 ≡ length line) (within : 
 pub returns-then-not-input : goal.returns-then-not-input
 returns-then-not-input c =
     let s = c in
-    joins_as (reply_none answer_to s.args.line.now s.args.input (c.if-not-input.true)) (joins_nothing _ _)
+    joins_as (reply_none answer_to s.args.line.now s.args.input (not-true _ c.if-not-input.true)) (joins_nothing _ _)
 
 pub returns-then-n-line : goal.returns-then-n-line
 returns-then-n-line c =
