@@ -1,21 +1,19 @@
 -- The numbers in a window, wherever it is: behind the last byte there are zeros. Assumes nothing.
 use mathlib.Core.Path.{◌≡◌, refl, sym, ap, ◌∙◌}
 use mathlib.Core.List.{List, [], ◌∷◌, ◌++◌}
-use Prim.Native.Nat.{ℕ, zero, suc, ◌+◌, ◌-◌, ◌*◌, ◌/◌, ◌%◌, ◌^◌, ◌≤◌, ◌<◌, min}
+use Prim.Native.Nat.{ℕ, zero, suc, ◌+◌, ◌-◌, ◌*◌, ◌/◌, ◌%◌, ◌^◌, ◌≤◌, ◌<◌}
 use native.Mathlib.Nat.{lt_of_not-le, add-mul, mul_assoc}
 use native.Mathlib.Decide.{dec_le}
 use native.Mathlib.Omega.{arith}
 use borrow.Author.Tests.{le-leb, lt-leb}
-use lib.Dec.{leb}
 use lib.ListN.{length, take, drop, replicate, take-append-drop, length-drop, length-replicate}
-use lib.Seq.{take_at, take_all, drop_at, drop-drop, drop-length}
+use lib.Seq.{take_at, take_all, drop_at, drop-drop}
 use lib.Pow.{pow-add, low, shl_lt, ones_lt}
 use Rattle.bits.specs.Bits.{value_of, bits_of, filled, Below}
 use Rattle.bits.specs.Take.{field_bits}
 use Rattle.bits.specs.Ahead.{window_byte, window_at, behind, seen_at, number_at}
 use Rattle.bits.proofs.Digits.{value_of_cons, value_of_append, value_of_lt, value_of_part}
-use Rattle.bits.proofs.Bytes.{below_take, below_drop, below_bits_of, length_bits_of, length_filled, below_filled, filled_add, filled_take, filled_is}
-use Rattle.bits.proofs.Fields.{length_field_bits, below_field_bits}
+use Rattle.bits.proofs.Bytes.{below_drop, below_bits_of, length_bits_of, length_filled, below_filled, filled_add, filled_take, filled_is}
 use Rattle.bits.proofs.Sight.{behind_is, ahead_is}
 
 -- zeros have the number 0

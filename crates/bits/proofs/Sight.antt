@@ -2,7 +2,7 @@
 use mathlib.Core.Path.{◌≡◌, refl, sym, ap, ◌∙◌}
 use mathlib.Core.List.{List}
 use mathlib.Core.Bool.{Bool, true, false, ◌&&◌}
-use Prim.Native.Nat.{ℕ, ◌+◌, ◌-◌, ◌*◌, ◌/◌, ◌%◌, ◌^◌, ◌≤◌, ◌<◌, min}
+use Prim.Native.Nat.{ℕ, ◌+◌, ◌-◌, ◌*◌, ◌/◌, ◌%◌, ◌^◌, ◌≤◌, ◌<◌}
 use native.Mathlib.Nat.{mod-lt, add_comm}
 use native.Mathlib.Omega.{arith}
 use borrow.Author.Tests.{leb-true}
@@ -16,7 +16,7 @@ use Rattle.bits.specs.Ahead.{window_byte, window_at, behind, in_sight, ahead_at}
 use Rattle.bits.specs.declared.Cursor.{Cursor}
 use Rattle.bits.specs.declared.Taken.TheVariants.{Field, Short}
 use Rattle.bits.proofs.Digits.{value_of_append}
-use Rattle.bits.proofs.Fields.{IsField, inside_field, field_in_field, length_field_bits}
+use Rattle.bits.proofs.Fields.{inside_field, field_in_field, length_field_bits}
 
 -- two fields side by side as one
 pub fields_joined : (s : List ℕ) (at a b : ℕ) → at + (a + b) ≤ 8 * length s

@@ -3,7 +3,7 @@ use Rattle.std.specs.Prelude.{List, Bool, cond, ◌&&◌, ℕ, ◌+◌, ◌-◌,
 use Rattle.bits.specs.Bits.{value_of, bits_of, filled}
 use Rattle.bits.specs.Take.{inside, field_bits, taken_if}
 use Rattle.bits.specs.declared.Taken.{Taken}
-use Rattle.bits.specs.declared.Taken.TheVariants.{Field, Short}
+use Rattle.bits.specs.declared.Taken.TheVariants.{Field}
 
 -- the byte at which the window of a position begins: its own, or the eighth from the last
 abbrev pub window_byte : List ℕ → ℕ → ℕ

@@ -1,5 +1,5 @@
 -- Worked examples of the definitions, each computed by the checker. Assumes nothing.
-use Rattle.std.specs.Prelude.{◌≡◌, refl, [], ◌∷◌, ◌-◌}
+use Rattle.std.specs.Prelude.{◌≡◌, refl, [], ◌∷◌}
 use Rattle.bits.specs.Bits.{digits, value_of, bits_of, bytes_for, filled, packed, bytes_of}
 use Rattle.bits.specs.Take.{taken_at, skip_at}
 use Rattle.bits.specs.Put.{over, put_at}

@@ -1,4 +1,6 @@
 // What is answered to a line that writes a balise group: the packets of its message, or why it is refused.
+#![tactic(auto)]
+
 ghost use Rattle.format.specs.Rules.{paper};
 ghost use Rattle.group.specs.Groups.{group, packets_needed};
 ghost use Rattle.queue.specs.Waiting.{Joins};

@@ -5,6 +5,8 @@
 //
 // The answer is `ok`, the number of packets, and each packet as the N_PIG of its balise, a dot and its number in its telegram; or `refused`, the number
 // of the refusal, which telegram or balise it is, and the place. The answer to any other line is `not a question`.
+#![tactic(auto)]
+
 ghost use Rattle.std.specs.Prelude.{◌≤◌, length};
 ghost use Rattle.group_answers.specs.Lines.{answer_to};
 ghost use Rattle.line_by_line.specs.Running.{reply, Answered};

@@ -1,5 +1,7 @@
 // Telegrams as data sheets and back: `out` prints the sheet of the telegram that standard input has as a line of characters 0 and 1, `in`
 // the line of the telegram whose sheet standard input has. What is refused is printed by its number and its place, or row.
+#![tactic(auto)]
+
 ghost use Rattle.printed.specs.Printed.{out_text};
 ghost use Rattle.printed_in.specs.Sheet.{in_text};
 ghost use Rattle.sheets.specs.Input.{Prints};

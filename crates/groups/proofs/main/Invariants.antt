@@ -1,0 +1,13 @@
+-- `groups::main` is safe and ends, and what it has written then is the answers to all lines. The loop's invariant: what is lent has its length, and the
+-- program has run line by line. The measure is the number of turns that are left. Assumes nothing.
+use mathlib.Core.Path.{◌≡◌}
+use lib.ListN.{length}
+use Rattle.group_answers.specs.Lines.{answer_to}
+use Rattle.line_by_line.specs.Running.{Runs}
+use Rattle.groups.proofs.main.Given as goal
+
+abbrev pub invariant-loop-rt : goal.invariant-loop-rt
+invariant-loop-rt l = (65536 ≡ length l.block) × (65536 ≡ length l.line) × (4096 ≡ length l.out) × Runs answer_to l.block l.line l.input l.out l.q
+
+abbrev pub decreases-loop-rt : goal.decreases-loop-rt
+decreases-loop-rt l = l.turns
