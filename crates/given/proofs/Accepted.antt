@@ -14,7 +14,6 @@ use Rattle.format.specs.Packets.Items.{end}
 use Rattle.format.specs.Rules.{State, Terms, begun, named, paper}
 use Rattle.format.specs.Telegrams.{Entry, entry, Run, Telegram, all, read, write}
 use Rattle.format.specs.Telegrams.Run.{last, more}
-use Rattle.format.specs.Telegrams.Result.{accepted}
 use Rattle.laws.proofs.Refused.{read_decides, write_decides}
 use Rattle.laws.proofs.Steps.{over_mark}
 use Rattle.laws.proofs.Points.{Sends}

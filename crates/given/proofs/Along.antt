@@ -7,9 +7,9 @@ use native.Mathlib.Omega.{arith}
 use lib.Dec.{T}
 use Rattle.format.specs.Among.{holding, Without, Inside}
 use Rattle.format.specs.Fields.{Field, NID_PACKET, NID_XUSER, Q_DIR, L_PACKET}
-use Rattle.format.specs.Packets.{Items, header}
+use Rattle.format.specs.Packets.{Items}
 use Rattle.format.specs.Packets.Items.{end}
-use Rattle.format.specs.Rules.{State, Context, Terms, Level, Next, begun, field, due, named, next, rule_of, noted}
+use Rattle.format.specs.Rules.{State, Context, Terms, Level, Next, field, due, named, next, rule_of, noted}
 use Rattle.format.specs.Rules.Level.{in_header, in_packet, in_user}
 use Rattle.format.specs.Rules.Next.{go}
 use Rattle.format.specs.Telegrams.{Entry, entry}

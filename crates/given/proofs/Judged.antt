@@ -9,7 +9,7 @@ use native.Mathlib.Omega.{arith}
 use borrow.Author.Tests.{leb-true, leb-false, lt-leb, eqb-true, eqb-false, eq-eqb, ne_eqb}
 use lib.Dec.{eqb, leb}
 use Rattle.format.specs.Fields.{Field, N_TOTAL, NID_PACKET, NID_XUSER}
-use Rattle.format.specs.Fields.Rule.{packet, user, direction, pig, total, radio, within}
+use Rattle.format.specs.Fields.Rule.{packet, user, direction, within}
 use Rattle.format.specs.Packets.{Items, find, etcs, ctcs}
 use Rattle.format.specs.Rules.{Context, Level, rule_of, known, unless, forbidden, radio_from, misdirected, broken, clash, paper}
 use Rattle.format.specs.Rules.Level.{in_header, in_packet, in_user}
@@ -18,7 +18,6 @@ use Rattle.format.specs.declared.Kind.{Kind}
 use Rattle.format.specs.declared.Kind.TheVariants.{Header, Unknown, Value}
 use Rattle.laws.proofs.Order.{order_value, unless_is}
 use Rattle.laws.proofs.Headed.{InBody}
-use Rattle.format.specs.Rules as rules
 use Rattle.laws.proofs.Pairs.{one_end}
 use Rattle.given.specs.Broken.{HeaderBroken, Unlisted, Disallowed, Collide}
 use Rattle.given.specs.Broken.HeaderBroken.{updown, version, media, dup}

@@ -10,7 +10,7 @@ use borrow.Author.Tests.{eqb-false}
 use lib.Dec.{T, eqb}
 use Rattle.format.specs.Among.{holding, Inside}
 use Rattle.format.specs.Fields.{Field, N_TOTAL, NID_PACKET, NID_XUSER, Q_DIR, L_PACKET}
-use Rattle.format.specs.Fields.Rule.{any, packet, size}
+use Rattle.format.specs.Fields.Rule.{any}
 use Rattle.format.specs.Packets.{Items}
 use Rattle.format.specs.Packets.Items.{end, nest, send, send_if, send_either, send_times}
 use Rattle.format.specs.Rules.{State, Context, field, due, rule_of, unless, misdirected, broken, clash, collides_by, field_place, paper}

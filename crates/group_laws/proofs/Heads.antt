@@ -3,14 +3,14 @@
 use mathlib.Core.Bool.{Bool, true, false, not, ◌&&◌, ◌||◌}
 use mathlib.Core.List.{List, [], ◌∷◌, ◌++◌, append_assoc, append-nil, map, reverse, reverse-cons}
 use mathlib.Core.Path.{◌≡◌, refl, sym, ap, ◌∙◌, subst}
-use Prim.Native.Nat.{ℕ, ◌+◌}
+use Prim.Native.Nat.{ℕ}
 use lib.Dec.{T, eqb}
 use Rattle.format.specs.Among.{holding}
 use Rattle.format.specs.Fields.{Field, NID_PACKET, Q_DIR, L_PACKET, END}
-use Rattle.format.specs.Packets.{Items, Packet, etcs, ctcs, header}
+use Rattle.format.specs.Packets.{Items, Packet, etcs, ctcs}
 use Rattle.format.specs.Packets.Items.{end}
 use Rattle.format.specs.Rules.{Earlier, named, next}
-use Rattle.format.specs.Telegrams.{Entry, entry, Divided, begins, before, divided, bit_count}
+use Rattle.format.specs.Telegrams.{Entry, Divided, begins, before, divided, bit_count}
 use Rattle.laws.proofs.Steps.{going}
 use Rattle.laws.proofs.Every.{Every, IfSome, Throughout, passes, passed, found, every_named, every_next}
 use Rattle.laws.proofs.Whole.{Goes, Began, Whole, headed}

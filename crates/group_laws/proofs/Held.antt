@@ -2,7 +2,7 @@
 use mathlib.Core.List.{List, [], ◌∷◌, ◌++◌}
 use mathlib.Core.Option.{some}
 use mathlib.Core.Path.{◌≡◌, refl, sym, ap, ◌∙◌}
-use Prim.Native.Nat.{ℕ, ◌+◌, ◌-◌, ◌*◌, ◌^◌, ◌≤◌, ◌<◌}
+use Prim.Native.Nat.{ℕ, ◌+◌, ◌*◌, ◌^◌, ◌≤◌, ◌<◌}
 use native.Mathlib.Omega.{arith}
 use lib.ListN.{length, take, drop, length-drop, take-append-drop}
 use lib.Seq.{take_at, drop_at, take-append-le, drop-append-le, length-take-le}
@@ -17,7 +17,6 @@ use Rattle.format.specs.Packets.Items.{end, send}
 use Rattle.format.specs.Rules.{State, Terms, begun, next, moved}
 use Rattle.format.specs.Telegrams.{Entry, bits, bits_in, bit_count, Run, Telegram}
 use Rattle.format.specs.Telegrams.Run.{last, more}
-use Rattle.format.specs.Telegrams.Result.{accepted}
 use Rattle.laws.proofs.Round.{all_append}
 use Rattle.laws.proofs.Demand2.{length_bits}
 use Rattle.laws.proofs.Steps.{going_on, over_mark, go_next}

@@ -10,10 +10,9 @@ use Rattle.bits.proofs.Fields.{field_in_field, field_lt, take_whole, take_past}
 use Rattle.format.specs.Among.{holding}
 use Rattle.format.specs.Fields.{NID_PACKET, Q_DIR, L_PACKET}
 use Rattle.format.specs.Rules.{paper}
-use Rattle.format.specs.Telegrams.{Entry, divided, bits, bit_count}
+use Rattle.format.specs.Telegrams.{Entry, divided, bit_count}
 use Rattle.laws.proofs.Demand2.{length_bits}
 use Rattle.laws.proofs.Tile.{end_mark, joined, divided_joined, bit_count_append, bit_counts, bit_count_joined, bit_counts_append, tiled}
-use Rattle.laws.proofs.Whole.{headed}
 use Rattle.states.proofs.Accepting.{sent}
 use Rattle.laws.proofs.EachWay.{telegram_small}
 use Rattle.states.specs.Lookback.{id_in, dir_in, long_in}

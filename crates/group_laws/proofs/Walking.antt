@@ -21,7 +21,7 @@ use Rattle.states.specs.Reader.{checked, answer_of}
 use Rattle.states.proofs.Answers.{check_judges, sized_is}
 use Rattle.headers.proofs.Numbers.{drop_all}
 use Rattle.group.specs.declared.Came.TheVariants.{All, Stops}
-use Rattle.group.specs.Groups.{Arrived, arrived, arrival, before, parts}
+use Rattle.group.specs.Groups.{Arrived, arrived, arrival, parts}
 use Rattle.group.specs.Groups.Arrived.{all, stops}
 use Rattle.group.specs.Walks.{came_of, part_length, telegrams_of, those, Arrives, Front}
 use Rattle.group_laws.proofs.Arrival.{first_of, any_number}

@@ -5,7 +5,7 @@ use native.Mathlib.Nat.{mod-lt}
 use native.Mathlib.Omega.{arith}
 use lib.Dec.{eqb, leb}
 use Rattle.bits.specs.Ahead.{behind}
-use Rattle.hops.specs.Hops.{hop, none, hop_if, link_in, level_in, leveled, transition_in, choice_in, condition_in, position_in, circuit_in}
+use Rattle.hops.specs.Hops.{hop, hop_if, link_in, level_in, leveled, transition_in, choice_in, condition_in, position_in, circuit_in}
 use Rattle.hops.specs.declared.Hop.{Hop}
 
 -- no more bits and values than the largest group of all has: 28 and 31 times 11, and 4 and 31 times 2

@@ -8,7 +8,7 @@ use native.Mathlib.Omega.{arith}
 use lib.Dec.{T, eqb}
 use Rattle.format.specs.Among.{holding}
 use Rattle.format.specs.Fields.{Field, NID_PACKET, Q_DIR, L_PACKET}
-use Rattle.format.specs.Fields.Rule.{packet, direction, size, pig}
+use Rattle.format.specs.Fields.Rule.{packet, direction, size}
 use Rattle.format.specs.Packets.{Items, header}
 use Rattle.format.specs.Packets.Items.{end, nest, send, send_if, send_either, send_times}
 use Rattle.format.specs.Rules.{State, Context, context, Terms, Earlier, Level, Next, begun, step, field, named, past, next, moved, rule_of, noted, closes, fresh}

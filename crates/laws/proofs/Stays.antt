@@ -12,7 +12,7 @@ use Rattle.format.specs.Fields.{Rule}
 use Rattle.format.specs.Fields.Rule.{any, packet, user, direction, size, pig, total, radio, within}
 use Rattle.format.specs.Packets.{Items}
 use Rattle.format.specs.Packets.Items.{end}
-use Rattle.format.specs.Rules.{State, Context, context, Terms, Level, step, field, past, due, next, rule_of, broken, noted, closes, settled, onward, fresh}
+use Rattle.format.specs.Rules.{State, Context, Terms, Level, step, field, past, due, next, rule_of, broken, noted, closes, settled, onward, fresh}
 use Rattle.format.specs.Rules.Level.{in_header, in_packet, in_user}
 use Rattle.format.specs.Rules.Next.{go, breaks}
 use Rattle.format.specs.Telegrams.{Entry}

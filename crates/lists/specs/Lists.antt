@@ -1,8 +1,7 @@
 -- Lists: "A list is N_ITER 5 and that many further groups (k)". How many values a packet has that ends in one. Definitions alone.
 use Rattle.std.specs.Prelude.{cond, List, ℕ, zero, suc, ◌+◌, ◌*◌, ◌≤◌, eqb, leb}
 use Rattle.bits.specs.Ahead.{behind, ahead_at}
-use Rattle.bits.specs.Take.{taken_at, skip_at}
-use Rattle.bits.specs.declared.Cursor.{Cursor}
+use Rattle.bits.specs.Take.{skip_at}
 use Rattle.bits.specs.declared.Taken.{Taken}
 use Rattle.bits.specs.declared.Taken.TheVariants.{Field, Short}
 use Rattle.bits.specs.declared.Skipped.{Skipped}

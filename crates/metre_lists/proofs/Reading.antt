@@ -1,7 +1,7 @@
 -- Numbers in front of a window and behind its first bits, and what is told of one and of two. Assumes nothing.
 use mathlib.Core.Bool.{Bool, true, false, cond, ◌&&◌}
 use mathlib.Core.List.{List}
-use mathlib.Core.Path.{◌≡◌, refl, sym, ap, ◌∙◌}
+use mathlib.Core.Path.{◌≡◌, refl, ap, ◌∙◌}
 use Prim.Native.Nat.{ℕ, ◌+◌, ◌-◌, ◌*◌, ◌/◌, ◌%◌, ◌^◌, ◌≤◌, ◌<◌}
 use native.Mathlib.Nat.{mod-lt, mod-eq_of_lt, mul-le-mul}
 use native.Mathlib.Omega.{arith}
@@ -9,7 +9,7 @@ use borrow.Author.Tests.{le-leb, lt-leb}
 use lib.ListN.{length}
 use lib.Pow.{pow_mono, shr_lt}
 use Rattle.bits.specs.Ahead.{behind, seen_at}
-use Rattle.bits.proofs.Looked.{number_is, number_lt}
+use Rattle.bits.proofs.Looked.{number_is}
 use Rattle.metre_lists.specs.Groups.{roomed}
 use Rattle.told.specs.Metres.{number_in}
 

@@ -153,7 +153,7 @@ module _ {s : List ℕ} {n : ℕ} (c : Context) where
   stood_closed {t = t} {x = x} {y = y} {count = count} (pass {u = u} {m = m} g k e p) f i h z =
       let here = step_kept (standing x t c) (value_at s t x) in
       elim (left_closed p) [
-        inl a ↦ subst (λ (b : ℕ). b ≤ n → closes b c c.level ≡ true → Stood s n (standing b end (fresh b c)) (count + suc m))
+        | inl a ↦ subst (λ (b : ℕ). b ≤ n → closes b c c.level ≡ true → Stood s n (standing b end (fresh b c)) (count + suc m))
             a.1
             (λ d v. counted (stood_on i d (here end k (e ∙ ap some a.0) ∙ settled_closing (x + (due t).width) c v)) (omega (arith, a.2)))
             h

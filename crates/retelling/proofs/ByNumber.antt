@@ -15,7 +15,7 @@ use Rattle.distance.specs.declared.Scale.TheVariants.{Tenths, Metres, Tens}
 use Rattle.distance.specs.declared.Scaled.TheVariants.{By, Not}
 use Rattle.told.specs.Metres.{number_in, metres_said, links_put, slopes_put, profiles_put, places_put, levels_put, conditions_put, text_put, handover_put, circuits_put, restrictions_put, reverse_put, turnout_put}
 use Rattle.told.specs.Decides.{links_whole, slopes_whole, profiles_whole, places_whole, levels_whole, conditions_whole, words_whole, handover_whole, circuits_whole, restrictions_whole, reverse_whole, turnout_whole, scaled_put, user_put, kind_put}
-use Rattle.retelling.specs.Retold.{told_by, scale_bit}
+use Rattle.retelling.specs.Retold.{told_by}
 
 -- ---- by a Q_SCALE
 

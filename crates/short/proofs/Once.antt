@@ -1,5 +1,5 @@
 -- Each promise of this crate is met by one answer alone. Assumes nothing.
-use mathlib.Core.Path.{◌≡◌, refl, sym, ◌∙◌}
+use mathlib.Core.Path.{refl, sym, ◌∙◌}
 use Rattle.short.specs.contracts as promises
 use Rattle.bits.proofs.Once.{OneOutcome}
 use Rattle.short.proofs.size.sized

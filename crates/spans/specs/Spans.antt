@@ -2,7 +2,6 @@
 use Rattle.std.specs.Prelude.{Bool, true, cond, List, ℕ, ◌+◌, ◌*◌, eqb, leb}
 use Rattle.bits.specs.Ahead.{behind}
 use Rattle.bits.specs.Take.{skip_at}
-use Rattle.bits.specs.declared.Cursor.{Cursor}
 use Rattle.bits.specs.declared.Skipped.{Skipped}
 use Rattle.bits.specs.declared.Skipped.TheVariants.{To, Lacking}
 use Rattle.lists.specs.Lists.{links_at, levels_at, choices_at, circuits_at}

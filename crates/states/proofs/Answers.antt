@@ -16,7 +16,6 @@ use lib.Seq.{length-take-le}
 use Rattle.bits.specs.Bits.{digits, value_of, bits_of, bytes_for, Below}
 use Rattle.bits.proofs.Digits.{length_digits}
 use Rattle.bits.proofs.Bytes.{below_bits_of, below_take, length_bits_of}
-use Rattle.format.specs.Fields.Rule.{size}
 use Rattle.format.specs.Judges.{Judges}
 use Rattle.format.specs.Refusals.{number_of}
 use Rattle.format.specs.Rules.{Terms, State, begun, field, past, next, broken, onward, verdict, step}

@@ -10,7 +10,6 @@ use Rattle.format.specs.Fields.Rule.{any, packet, user, direction, size, pig, to
 use Rattle.format.specs.Fields.Sense.{plain, scale, distance, text_length}
 use Rattle.format.specs.Rules.{Earlier, rule_of, step, clash, collides_among, collides_by, paper}
 use Rattle.format.specs.Table.{field_at, code_of}
-use Rattle.laws.proofs.Noted.{kept}
 use Rattle.states.specs.Lookback.{is_packet, directs, repeats}
 use Rattle.states.specs.Machine.{context_of, view, next_of, rule_at, earlier_after, Kept, Stepped}
 use Rattle.states.specs.declared.Level.{Level}

@@ -18,7 +18,7 @@ use Rattle.bits.proofs.Bytes.{length_bits_of, below_bits_of, below_take}
 use Rattle.bits.proofs.Fields.{IsField, taken, take_whole}
 use Rattle.format.specs.Rules.{Earlier, begun, closes, paper, spot_of, spot_at, place_from, field_place}
 use Rattle.format.specs.Table.{act, field_at, words}
-use Rattle.format.specs.Telegrams.{bits_in, from_bits, whole, read}
+use Rattle.format.specs.Telegrams.{bits_in, from_bits, read}
 use Rattle.format.specs.Telegrams.Taken.{got, lacks}
 use Rattle.format.specs.Telegrams.Result.{refused}
 use Rattle.format.specs.declared.Kind.{Kind}
@@ -36,7 +36,7 @@ use Rattle.states.specs.declared.Outcome.{Outcome}
 use Rattle.states.specs.declared.Outcome.TheVariants.{Go, Over, Breaks}
 use Rattle.states.proofs.Stepping.{width_in, settled_goes, settled_fresh}
 use Rattle.states.proofs.Directions.{Away, Passed}
-use Rattle.states.proofs.Driving.{placed, Drives, drives_first, due_is, here, refused_lacking, refused_broken, accepted_mark, refused_trailing, mark_counted, moves, drives_on}
+use Rattle.states.proofs.Driving.{placed, Drives, drives_first, due_is, refused_lacking, refused_broken, accepted_mark, refused_trailing, mark_counted, moves, drives_on}
 use Rattle.states.proofs.Idling.{idle_ahead, slight_free, fine_passed, slight_judged, slight_not, slight_entered, sound_after}
 use Rattle.format.specs.Fields as fields
 use Rattle.format.specs.Rules as rules

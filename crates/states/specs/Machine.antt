@@ -1,5 +1,5 @@
 -- What the machine's state stands for in the definitions of crate format, and what each of its functions promises. Definitions alone.
-use Rattle.std.specs.Prelude.{◌≡◌, true, false, Bool, cond, not, ◌&&◌, ◌||◌, List, [], ◌∷◌, ℕ, suc, ◌+◌, ◌-◌, ◌/◌, ◌%◌, ◌^◌, ◌<◌, ◌≤◌, eqb, leb, ltb, get_or}
+use Rattle.std.specs.Prelude.{◌≡◌, Bool, cond, ◌&&◌, ◌||◌, List, [], ◌∷◌, ℕ, suc, ◌+◌, ◌-◌, ◌%◌, ◌^◌, ◌<◌, ◌≤◌, eqb, leb, ltb, get_or}
 use Rattle.std.proofs.Math.Option.{Option, some, none}
 use Rattle.format.specs.Fields.{Rule, Sense}
 use Rattle.format.specs.Fields.Rule.{any, packet, user, direction, size, pig, total, radio, within}

@@ -9,7 +9,6 @@ use native.Mathlib.Omega.{arith}
 use lib.Dec.{T}
 use Rattle.format.specs.Among.{holding}
 use Rattle.format.specs.Fields.{Field, NID_PACKET, NID_XUSER, Q_DIR, L_PACKET, Q_SCALE}
-use Rattle.format.specs.Fields.Sense.{plain}
 use Rattle.format.specs.Packets.{Items, find, etcs, ctcs}
 use Rattle.format.specs.Packets.Items.{end, nest, send}
 use Rattle.format.specs.Rules.{or_end, next}

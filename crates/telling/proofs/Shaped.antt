@@ -7,7 +7,7 @@ use Prim.Native.Nat.{ℕ}
 use lib.Dec.{T, eqb}
 use Rattle.format.specs.Fields.{Field, Sense}
 use Rattle.format.specs.Fields.Sense.{plain, scale, distance, text_length}
-use Rattle.format.specs.Packets.{Items, header}
+use Rattle.format.specs.Packets.{Items}
 use Rattle.format.specs.Packets.Items.{end}
 use Rattle.format.specs.Rules.{State, Terms, begun, named}
 use Rattle.format.specs.Telegrams.{Entry, entry, begins, Divided, before, divided, Run, Telegram}

@@ -7,16 +7,15 @@ use native.Mathlib.Omega.{arith}
 use borrow.Author.Tests.{le-leb, lt-leb, eq-eqb, ne_eqb}
 use Rattle.bits.specs.Ahead.{behind, ahead_at}
 use Rattle.bits.specs.Take.{taken_at, skip_at}
-use Rattle.bits.proofs.Fields.{taken, skipped}
 use Rattle.bits.proofs.Sight.{sighted}
 use Rattle.bits.specs.declared.Cursor.{Cursor}
 use Rattle.bits.specs.declared.Taken.{Taken}
 use Rattle.bits.specs.declared.Taken.TheVariants.{Field, Short}
-use Rattle.bits.specs.declared.Skipped.TheVariants.{To, Lacking}
-use Rattle.hops.specs.Hops.{hop, none, hop_if, position_in}
+use Rattle.bits.specs.declared.Skipped.TheVariants.{To}
+use Rattle.hops.specs.Hops.{hop, hop_if, position_in}
 use Rattle.hops.proofs.Bounds.{Small, position_small, iter_small}
 use Rattle.hops.specs.declared.Hop.{Hop}
-use Rattle.lists.specs.Lists.{hop_seen, group_at, others_at, Bounded, packet_list}
+use Rattle.lists.specs.Lists.{hop_seen, group_at, others_at, packet_list}
 use Rattle.lists.proofs.Turns.{list_there}
 use Rattle.wide_lists.specs.WideLists.{differing, speed_with, speed_of, speed_at, position_at, apart_at, speeds_at, positions_at}
 

@@ -2,7 +2,6 @@
 use Rattle.std.specs.Prelude.{Bool, true, false, cond, ◌&&◌, List, ℕ, zero, suc, ◌+◌, ◌*◌, eqb, leb}
 use Rattle.bits.specs.Ahead.{behind, ahead_at}
 use Rattle.bits.specs.Take.{taken_at}
-use Rattle.bits.specs.declared.Cursor.{Cursor}
 use Rattle.bits.specs.declared.Taken.{Taken}
 use Rattle.bits.specs.declared.Taken.TheVariants.{Field, Short}
 use Rattle.hops.specs.Hops.{hop, none, hop_if, position_in}

@@ -1,7 +1,6 @@
 -- `bodies::with_radio` meets its contract: the two halves of the number joined. Assumes nothing.
 use mathlib.Core.Path.{sym, ◌∙◌}
 use native.Mathlib.Omega.{arith}
-use Rattle.bits.specs.Ahead.{behind}
 use Rattle.bodies.proofs.Tests.{radio_long, radio_lacking, high_short, low_short, radio_broken, radio_kept, halves}
 use Rattle.bodies.proofs.with_radio.Goals as goal
 

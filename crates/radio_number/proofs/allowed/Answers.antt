@@ -1,6 +1,5 @@
 -- What is left to test of the places below k, after an F or not, is what was to be tested of all sixteen, and the place in hand decides one step of it. Assumes nothing.
 use mathlib.Core.Path.{refl, ◌∙◌, sym}
-use mathlib.Core.Bool.{false}
 use Prim.Native.Nat.{◌-◌}
 use native.Mathlib.Omega.{arith}
 use Rattle.states.proofs.Places.{full_at, digit_at, bad_digit, late_digit, all_read}
