@@ -8,7 +8,7 @@ use Rattle.format.specs.Rules.{paper}
 use Rattle.format.specs.declared.Refusal.{Refusal}
 use Rattle.format.proofs.Numbers.{refusal_is}
 use Rattle.format.specs.Refusals.{number_of}
-use Rattle.group.specs.Groups.{Part, parts, fault, Message, group, group_in, reply_of, Replied}
+use Rattle.group.specs.Groups.{Part, parts, fault, Message, group_in, reply_of, Replied}
 use Rattle.group.specs.Groups.Message.{lists, refuses}
 use Rattle.group.specs.declared.Cause.TheVariants.{Single}
 use Rattle.group.specs.declared.Fault.{Fault}

@@ -9,7 +9,6 @@ use native.Mathlib.Omega.{arith}
 use borrow.Author.Tests.{leb-true, leb-false, le-leb, lt-leb}
 use lib.Dec.{leb}
 use Rattle.format.specs.Judges.{Judges}
-use Rattle.format.specs.Normal.{normal}
 use Rattle.format.specs.Refusals.{number_of, in_numbers, code_of}
 use Rattle.format.specs.Telegrams.{Entry, Result}
 use Rattle.format.specs.Telegrams.Result.{accepted, refused}

@@ -1,7 +1,7 @@
 -- What an answer for C was made of can be told apart again: a count is below 1,024, and a refusal's number, which and place are its highest 5, the 49 in
 -- the middle and its lowest 10 bits. Assumes nothing.
 use mathlib.Core.Path.{◌≡◌}
-use Prim.Native.Nat.{ℕ, ◌-◌, ◌/◌, ◌%◌, ◌^◌, ◌≤◌, ◌<◌}
+use Prim.Native.Nat.{ℕ, ◌/◌, ◌%◌, ◌^◌, ◌≤◌, ◌<◌}
 use native.Mathlib.Omega.{arith}
 use Rattle.group.specs.declared.Fault.{Fault}
 use Rattle.group.specs.declared.Reply.TheVariants.{Packets, Refused}

@@ -1,0 +1,2 @@
+-- That each promise has one answer.
+pub mod Once
