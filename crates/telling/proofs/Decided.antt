@@ -21,7 +21,8 @@ use Rattle.laws.proofs.Whole.{Goes, headed, Packet}
 use Rattle.telling.proofs.Under.{InMetres, metres_append}
 use Rattle.telling.proofs.Once.{Shape, Bare, bare_metres, behind_metres, retold, packet_metric, packet_stays}
 use Rattle.telling.proofs.Once.Phase.{behind}
-use Rattle.telling.proofs.Scales.{holds, holds_ordered}
+use Rattle.telling.proofs.Scales.{holds}
+use Rattle.telling.proofs.Ordered.{holds_ordered}
 use Rattle.telling.proofs.WholePackets.{reaches_shape, goes_reached}
 use Rattle.telling.proofs.Faced.{goes_none, goes_first, body_goes}
 use Rattle.telling.proofs.AtBits.{AtBit, value_there, value_there_lem, next_there, at_front, at_behind, fair_front}

@@ -2,6 +2,7 @@
 pub mod Under
 pub mod Once
 pub mod Scales
+pub mod Ordered
 pub mod Shaped
 pub mod EachPacket
 pub mod WholePackets

@@ -18,8 +18,9 @@ use Rattle.laws.proofs.Steps.{go_next, over_mark}
 use Rattle.laws.proofs.Told.{choose_t}
 use Rattle.telling.proofs.Once.{Phase, Shape}
 use Rattle.telling.proofs.Once.Phase.{heading, ahead, behind}
-use Rattle.telling.proofs.Scales.{same, ordered, header_ordered, Fares, fares_edge, fares, is_late}
-use Rattle.telling.proofs.Scales.Fares.{edge, stays, turns}
+use Rattle.telling.proofs.Scales.{same, ordered}
+use Rattle.telling.proofs.Ordered.{header_ordered, Fares, fares_edge, fares, is_late}
+use Rattle.telling.proofs.Ordered.Fares.{edge, stays, turns}
 
 abbrev pub AllShaped : List (List Entry) → Type 0
 AllShaped [] = Unit

@@ -23,8 +23,9 @@ use Rattle.laws.proofs.Whole.Goes.{here, further}
 use Rattle.telling.proofs.Under.{Led, led_append, normal_append}
 use Rattle.telling.proofs.Once.{Phase, Shape, shape_led, Sorted, sorted}
 use Rattle.telling.proofs.Once.Phase.{ahead, behind}
-use Rattle.telling.proofs.Scales.{opens, same, ordered, etcs_ordered, Fares, fares, is_late}
-use Rattle.telling.proofs.Scales.Fares.{edge, stays, turns}
+use Rattle.telling.proofs.Scales.{opens, same, ordered}
+use Rattle.telling.proofs.Ordered.{etcs_ordered, Fares, fares, is_late}
+use Rattle.telling.proofs.Ordered.Fares.{edge, stays, turns}
 use Rattle.telling.proofs.EachPacket.{left_led}
 
 -- ---- phases along entries that grow at their end

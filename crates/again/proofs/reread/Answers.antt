@@ -14,12 +14,12 @@ returns-then-run-lt830 c =
 pub returns-in_default : goal.returns-in_default
 returns-in_default c =
     let a = c.args in
-    write_refused paper a.values.now a.out.now a.run.now _ (omega (arith, c.if-run-lt830.false)) c.write-a.ensures c.in_default.is
+    write_refused paper a.values.now a.out.now a.run.now _ (omega arith) c.write-a.ensures c.in_default.is
 
 pub returns : goal.returns
 returns c =
     let a = c.args in
-    rereads paper a.values.now a.out.now a.run.now _ (omega (arith, c.if-run-lt830.false)) c.write-a.ensures c.in-Accepted.is
+    rereads paper a.values.now a.out.now a.run.now _ (omega arith) c.write-a.ensures c.in-Accepted.is
     c.bytes_for.ensures
     c.read.ensures
 
@@ -29,11 +29,11 @@ pub slice_bounds-read-end : goal.slice_bounds-read-end
 slice_bounds-read-end c =
     let a = c.args in
     rw c.bytes_for.ensures
-    (lent_bytes paper a.values.now a.out.now a.run.now _ (omega (arith, c.if-run-lt830.false)) c.write-a.ensures c.in-Accepted.is)
+    (lent_bytes paper a.values.now a.out.now a.run.now _ (omega arith) c.write-a.ensures c.in-Accepted.is)
 
 pub slice_bounds-read-end-2 : goal.slice_bounds-read-end-2
 slice_bounds-read-end-2 c =
     let a = c.args in
     sym (length-take-le _ _
     (rw c.bytes_for.ensures
-    (lent_bytes paper a.values.now a.out.now a.run.now _ (omega (arith, c.if-run-lt830.false)) c.write-a.ensures c.in-Accepted.is)))
+    (lent_bytes paper a.values.now a.out.now a.run.now _ (omega arith) c.write-a.ensures c.in-Accepted.is)))

@@ -15,12 +15,12 @@ returns-then-out-lt104 c =
 pub returns-in_default : goal.returns-in_default
 returns-in_default c =
     let a = c.args in
-    read_refused paper a.s.now a.n a.run.now a.out.now _ (omega (arith, c.if-out-lt104.false)) c.read-a.ensures c.in_default.is
+    read_refused paper a.s.now a.n a.run.now a.out.now _ (omega arith) c.read-a.ensures c.in_default.is
 
 pub returns : goal.returns
 returns c =
     let a = c.args in
-    rewrites paper a.s.now a.n a.run.now a.out.now _ (omega (arith, c.if-out-lt104.false)) c.read-a.ensures c.in-Accepted.is
+    rewrites paper a.s.now a.n a.run.now a.out.now _ (omega arith) c.read-a.ensures c.in-Accepted.is
     (below_known 256 a.s.now (λ i. (c.type_inv.s i).fits))
     c.write.ensures
 
@@ -29,9 +29,9 @@ returns c =
 pub slice_bounds-write-end : goal.slice_bounds-write-end
 slice_bounds-write-end c =
     let a = c.args in
-    lent paper a.s.now a.n a.run.now a.out.now _ (omega (arith, c.if-out-lt104.false)) c.read-a.ensures c.in-Accepted.is
+    lent paper a.s.now a.n a.run.now a.out.now _ (omega arith) c.read-a.ensures c.in-Accepted.is
 
 pub slice_bounds-write-end-2 : goal.slice_bounds-write-end-2
 slice_bounds-write-end-2 c =
     let a = c.args in
-    sym (length-take-le _ _ (lent paper a.s.now a.n a.run.now a.out.now _ (omega (arith, c.if-out-lt104.false)) c.read-a.ensures c.in-Accepted.is))
+    sym (length-take-le _ _ (lent paper a.s.now a.n a.run.now a.out.now _ (omega arith) c.read-a.ensures c.in-Accepted.is))

@@ -16,12 +16,12 @@ returns-then-x-lt104 c =
 pub returns-then-y-lt104 : goal.returns-then-y-lt104
 returns-then-y-lt104 c =
     let a = c.args in
-    no_room_for_other paper a.s.now a.n a.t.now a.m a.x.now a.y.now (omega (arith, c.if-x-lt104.false)) (omega (arith, c.if-y-lt104.true))
+    no_room_for_other paper a.s.now a.n a.t.now a.m a.x.now a.y.now (omega arith) (omega (arith, c.if-y-lt104.true))
 
 pub returns-in-Refused : goal.returns-in-Refused
 returns-in-Refused c =
     let a = c.args in
-    first_refused paper a.s.now a.n a.t.now a.m a.x.now a.y.now (omega (arith, c.if-x-lt104.false)) (omega (arith, c.if-y-lt104.false))
+    first_refused paper a.s.now a.n a.t.now a.m a.x.now a.y.now (omega arith) (omega arith)
     ((answer_refused (checked paper a.s.now a.n) _).0 (sym c.in-Refused.is ∙ answer_is _ _ c.check.ensures))
 
 -- before the need that follows: without the check of the second telegram this is what fails
@@ -30,14 +30,14 @@ compared-requires c =
     let a = c.args in
     let f = (answer_accepted (checked paper a.s.now a.n) _).0 (sym c.in_default.is ∙ answer_is _ _ c.check.ensures) in
     let g = (answer_accepted (checked paper a.t.now a.m) _).0 (sym c.in_default-check.is ∙ answer_is _ _ c.check-2.ensures) in (
-      record { entries = f.0; accepts = f.1; room = omega (arith, c.if-x-lt104.false) },
-      record { entries = g.0; accepts = g.1; room = omega (arith, c.if-y-lt104.false) },
+      record { entries = f.0; accepts = f.1; room = omega arith },
+      record { entries = g.0; accepts = g.1; room = omega arith },
     )
 
 pub returns-in-Refused-check : goal.returns-in-Refused-check
 returns-in-Refused-check c =
     let a = c.args in
-    second_refused paper a.s.now a.n a.t.now a.m a.x.now a.y.now (omega (arith, c.if-x-lt104.false)) (omega (arith, c.if-y-lt104.false))
+    second_refused paper a.s.now a.n a.t.now a.m a.x.now a.y.now (omega arith) (omega arith)
     ((answer_accepted (checked paper a.s.now a.n) _).0 (sym c.in_default.is ∙ answer_is _ _ c.check.ensures)).1
     ((answer_refused (checked paper a.t.now a.m) _).0 (sym c.in-Refused-check.is ∙ answer_is _ _ c.check-2.ensures))
 

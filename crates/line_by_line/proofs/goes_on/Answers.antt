@@ -2,6 +2,7 @@
 use mathlib.Core.Path.{◌≡◌}
 use mathlib.Core.Bool.{true, false}
 use Prim.Native.Nat.{ℕ}
+use borrow.Author.Rules.{rules}
 use lib.Dec.{ltb}
 use Rattle.blocks.specs.declared.Input.{Input}
 use Rattle.queue.specs.declared.Queue.{Queue}
@@ -25,4 +26,4 @@ pub returns-then-input : goal.returns-then-input
 returns-then-input c = behind_end c.args.input c.args.q c.args.turns c.if-q.false c.if-input.true
 
 pub returns : goal.returns
-returns c = before_end c.args.input c.args.q c.args.turns c.if-q.false c.if-input.false
+returns c = before_end c.args.input c.args.q c.args.turns (search rules) (search rules)

@@ -14,12 +14,12 @@ returns-then-y-lt104 c =
 pub returns-in_default : goal.returns-in_default
 returns-in_default c =
     let a = c.args in
-    form_refused paper a.s.now a.n a.x.now a.y.now _ (omega (arith, c.if-y-lt104.false)) c.normalise-a.ensures c.in_default.is
+    form_refused paper a.s.now a.n a.x.now a.y.now _ (omega arith) c.normalise-a.ensures c.in_default.is
 
 pub returns : goal.returns
 returns c =
     let a = c.args in
-    renormalises paper a.s.now a.n a.x.now a.y.now _ (omega (arith, c.if-y-lt104.false)) c.normalise-a.ensures c.in-Accepted.is c.bytes_for.ensures
+    renormalises paper a.s.now a.n a.x.now a.y.now _ (omega arith) c.normalise-a.ensures c.in-Accepted.is c.bytes_for.ensures
     c.normalise.ensures
 
 -- that the parts that are lent lie inside what they are parts of; below the answers, so that an edit of a part is refused at an answer

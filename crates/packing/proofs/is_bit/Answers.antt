@@ -12,4 +12,4 @@ returns-then-c-gt49 c =
     simp (le-leb 48 a c.if-c-lt48.false, lt-leb a 49 (omega (arith, c.if-c-gt49.true)))
 
 pub returns : goal.returns
-returns c = simp (le-leb 48 _ c.if-c-lt48.false, le-leb _ 49 c.if-c-gt49.false)
+returns c = let a = c.args.c in simp (le-leb 48 a (omega arith), le-leb a 49 (omega arith))

@@ -22,4 +22,4 @@ returns-then-r-gt51 c =
 pub returns : goal.returns
 returns c =
     let a = c.args in
-    simp (le-ltb a.r 10 c.if-r-lt10.false, le-leb a.v _ c.if-high-v.false, le-ltb a.r 48 c.if-r-lt48.false, le-leb a.r 51 (omega (arith, c.if-r-gt51.false)))
+    simp (le-ltb a.r 10 c.if-r-lt10.false, le-leb a.v _ c.if-high-v.false, le-ltb a.r 48 c.if-r-lt48.false, le-leb a.r 51 (omega arith))

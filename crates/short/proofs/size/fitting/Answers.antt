@@ -11,4 +11,4 @@ pub returns-then-end-gt830 : goal.returns-then-end-gt830
 returns-then-end-gt830 c = let a = c.args in rw (sym c.fits.ensures ∙ c.if-not-fits.false, lt-leb a.end 830 (omega (arith, c.if-end-gt830.true)))
 
 pub returns : goal.returns
-returns c = let a = c.args in rw (sym c.fits.ensures ∙ c.if-not-fits.false, le-leb a.end 830 c.if-end-gt830.false)
+returns c = let a = c.args in rw (sym c.fits.ensures ∙ c.if-not-fits.false, le-leb a.end 830 (omega arith))

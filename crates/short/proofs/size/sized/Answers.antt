@@ -10,4 +10,4 @@ pub returns-then-n-gt830 : goal.returns-then-n-gt830
 returns-then-n-gt830 c = let a = c.args in simp (le-leb 58 a.n (omega (arith, c.if-n-gt830.true)), lt-leb a.n 830 (omega (arith, c.if-n-gt830.true)))
 
 pub returns : goal.returns
-returns c = let a = c.args in simp (le-leb 58 a.n c.if-n-lt58.false, le-leb a.n 830 c.if-n-gt830.false, c.bytes_for.ensures)
+returns c = let a = c.args in simp (le-leb 58 a.n (omega arith), le-leb a.n 830 (omega arith), c.bytes_for.ensures)
