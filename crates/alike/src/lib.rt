@@ -8,7 +8,7 @@ ghost use Rattle.alike.specs.Pairs.{SaysSame};
 use format::{Answer, Kind, Refusal};
 
 // Whether two telegrams say the same, or which of them is refused. Too little room comes before all else; of two alike the first comes first.
-#[derive(Drop)]
+#[derive(Clone, Copy)]
 pub enum Alike {
     Same,
     Other,

@@ -20,14 +20,14 @@ pub struct Cursor {
 }
 
 // What taking a field finds: its number with the cursor past it, or that no whole field lies there.
-#[derive(Drop)]
+#[derive(Clone, Copy)]
 pub enum Taken {
     Field(u64, Cursor),
     Short,
 }
 
 // What going past bits finds: the cursor behind them, or that there are not so many.
-#[derive(Drop)]
+#[derive(Clone, Copy)]
 pub enum Skipped {
     To(Cursor),
     Lacking,

@@ -12,7 +12,7 @@ use std::io::Stdin;
 use word64::lower;
 
 // How many bytes were read, or that a read failed.
-#[derive(Drop)]
+#[derive(Clone, Copy)]
 pub enum Filled {
     Bytes(usize),
     Failed,

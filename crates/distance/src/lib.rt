@@ -15,7 +15,7 @@ pub enum Scale {
 }
 
 // So many steps of a scale.
-#[derive(Drop)]
+#[derive(Clone, Copy)]
 pub struct Steps(u32);
 
 // So many decimetres. No function makes them of a number or gives their number: they come of steps at a scale, and go back to steps.
@@ -23,14 +23,14 @@ pub struct Steps(u32);
 pub struct Decimetres(u64);
 
 // The scale that a Q_SCALE is, if it is one.
-#[derive(Drop)]
+#[derive(Clone, Copy)]
 pub enum Scaled {
     By(Scale),
     Not,
 }
 
 // What decimetres are in steps of a scale: whole steps, or not a number of steps.
-#[derive(Drop)]
+#[derive(Clone, Copy)]
 pub enum Told {
     Whole(Steps),
     Not,

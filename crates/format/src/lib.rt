@@ -22,7 +22,7 @@ pub enum Kind {
 
 // What a refusal points at: the field that is due, the bit behind it, or an L_PACKET that is wrong: that of the packet, or of the CTCS
 // packet inside it.
-#[derive(Drop)]
+#[derive(Clone, Copy)]
 pub enum Spot {
     Due,
     Behind,
@@ -38,14 +38,14 @@ pub struct Refusal {
 }
 
 // What a reader, a writer or a normaliser answers: accepted, with a count, or refused.
-#[derive(Drop)]
+#[derive(Clone, Copy)]
 pub enum Answer {
     Accepted(usize),
     Refused(Refusal),
 }
 
 // Where a packet's fields begin in the table of rows, and the bits of its head from the identifier on; both 0 where there is none.
-#[derive(Drop)]
+#[derive(Clone, Copy)]
 pub struct Start {
     pub row: usize,
     pub head: usize,

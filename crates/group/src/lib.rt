@@ -5,7 +5,7 @@
 use format::{Kind, Refusal};
 
 // Why a group is refused. `causeNumber` in specs/Groups.antt gives the number of each (docs/RULES.md).
-#[derive(Drop)]
+#[derive(Clone, Copy)]
 pub enum Cause {
     // there is no room for 264 packets
     Room,
@@ -22,7 +22,7 @@ pub enum Cause {
 }
 
 // A refusal. `which` is an arrival number for a single telegram, an N_PIG for Copied and Repeated, and else 0.
-#[derive(Drop)]
+#[derive(Clone, Copy)]
 pub struct Fault {
     pub cause: Cause,
     pub which: usize,
@@ -30,28 +30,28 @@ pub struct Fault {
 }
 
 // What a group answers: how many packets its message has, or why there is none.
-#[derive(Drop)]
+#[derive(Clone, Copy)]
 pub enum Reply {
     Packets(usize),
     Refused(Fault),
 }
 
 // How far the telegrams are accepted, in order of arrival: all of them, or to the first that is refused, with its arrival number.
-#[derive(Drop)]
+#[derive(Clone, Copy)]
 pub enum Came {
     All,
     Stops(usize, Refusal),
 }
 
 // An N_PIG that was looked for.
-#[derive(Drop)]
+#[derive(Clone, Copy)]
 pub enum Found {
     At(usize),
     Nowhere,
 }
 
 // What all tests but the last come to, which is for packets that collide.
-#[derive(Drop)]
+#[derive(Clone, Copy)]
 pub enum Verdict {
     Faulty(Fault),
     Fine,

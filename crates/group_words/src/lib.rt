@@ -14,7 +14,7 @@ use telegram_word::Lent;
 const MOST: usize = 16;
 
 // What a line is: a group of so many telegrams, whose bytes are so many; no group; or one that there is no room for.
-#[derive(Drop)]
+#[derive(Clone, Copy)]
 pub enum Collected {
     Group(usize, usize),
     Not,
@@ -22,14 +22,14 @@ pub enum Collected {
 }
 
 // How many telegrams the words of a line are, and how many bytes those have; or that they are no group.
-#[derive(Drop)]
+#[derive(Clone, Copy)]
 enum Measure {
     Telegrams(usize, usize),
     Not,
 }
 
 // How many bytes a word's telegram has, or that the word is none.
-#[derive(Drop)]
+#[derive(Clone, Copy)]
 enum Size {
     Bytes(usize),
     Not,

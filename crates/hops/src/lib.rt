@@ -12,7 +12,7 @@ use bits::behind;
 pub const N_ITER: usize = 5;
 
 // A group: how many bits and how many values it has. It has no bit where it breaks a rule.
-#[derive(Drop)]
+#[derive(Clone, Copy)]
 pub struct Hop {
     pub bits: usize,
     pub values: usize,

@@ -13,7 +13,7 @@ mod passed;
 mod storing;
 
 // Whether packets collide with earlier ones: so many do not; or the first that does, with its N_PIG and the bit of its Q_DIR.
-#[derive(Drop)]
+#[derive(Clone, Copy)]
 pub enum Clash {
     Free(usize),
     At(usize, usize),

@@ -40,7 +40,7 @@ pub(crate) struct Layout {
 }
 
 // How many groups of a list are left, and where the next one begins.
-#[derive(Drop)]
+#[derive(Clone, Copy)]
 pub(crate) struct Rest {
     pub left: u64,
     pub at: usize,

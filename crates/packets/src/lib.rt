@@ -46,7 +46,7 @@ pub fn ctcs(v: u64) -> Start
 }
 
 // ETCS-5, linking.
-#[derive(Drop)]
+#[derive(Clone, Copy)]
 pub struct Linking {
     pub start: Start,
 }
@@ -70,7 +70,7 @@ impl Linking {
 }
 
 // ETCS-21, gradient profile.
-#[derive(Drop)]
+#[derive(Clone, Copy)]
 pub struct Gradient {
     pub start: Start,
 }
@@ -94,7 +94,7 @@ impl Gradient {
 }
 
 // ETCS-27, static speed profile.
-#[derive(Drop)]
+#[derive(Clone, Copy)]
 pub struct Speed {
     pub start: Start,
 }
@@ -118,7 +118,7 @@ impl Speed {
 }
 
 // ETCS-41, level transition.
-#[derive(Drop)]
+#[derive(Clone, Copy)]
 pub struct Level {
     pub start: Start,
 }
@@ -142,7 +142,7 @@ impl Level {
 }
 
 // ETCS-42, session with a radio block centre.
-#[derive(Drop)]
+#[derive(Clone, Copy)]
 pub struct Session {
     pub start: Start,
 }
@@ -166,7 +166,7 @@ impl Session {
 }
 
 // ETCS-44, which holds a CTCS packet.
-#[derive(Drop)]
+#[derive(Clone, Copy)]
 pub struct National {
     pub start: Start,
 }
@@ -193,7 +193,7 @@ impl National {
 }
 
 // ETCS-46, conditional level transition.
-#[derive(Drop)]
+#[derive(Clone, Copy)]
 pub struct Conditional {
     pub start: Start,
 }
@@ -217,7 +217,7 @@ impl Conditional {
 }
 
 // ETCS-68, track conditions.
-#[derive(Drop)]
+#[derive(Clone, Copy)]
 pub struct Track {
     pub start: Start,
 }
@@ -241,7 +241,7 @@ impl Track {
 }
 
 // ETCS-72, plain text.
-#[derive(Drop)]
+#[derive(Clone, Copy)]
 pub struct Text {
     pub start: Start,
 }
@@ -265,7 +265,7 @@ impl Text {
 }
 
 // ETCS-79, geographical position.
-#[derive(Drop)]
+#[derive(Clone, Copy)]
 pub struct Position {
     pub start: Start,
 }
@@ -289,7 +289,7 @@ impl Position {
 }
 
 // ETCS-131, transition between radio block centres.
-#[derive(Drop)]
+#[derive(Clone, Copy)]
 pub struct Transition {
     pub start: Start,
 }
@@ -313,7 +313,7 @@ impl Transition {
 }
 
 // ETCS-132, danger for shunting.
-#[derive(Drop)]
+#[derive(Clone, Copy)]
 pub struct Shunting {
     pub start: Start,
 }
@@ -337,7 +337,7 @@ impl Shunting {
 }
 
 // ETCS-137, stop if in staff responsible.
-#[derive(Drop)]
+#[derive(Clone, Copy)]
 pub struct Sight {
     pub start: Start,
 }
@@ -361,7 +361,7 @@ impl Sight {
 }
 
 // ETCS-254, default balise information.
-#[derive(Drop)]
+#[derive(Clone, Copy)]
 pub struct Default {
     pub start: Start,
 }
@@ -385,7 +385,7 @@ impl Default {
 }
 
 // CTCS-1, track circuits.
-#[derive(Drop)]
+#[derive(Clone, Copy)]
 pub struct Circuits {
     pub start: Start,
 }
@@ -409,7 +409,7 @@ impl Circuits {
 }
 
 // CTCS-2, temporary speed restriction.
-#[derive(Drop)]
+#[derive(Clone, Copy)]
 pub struct Restriction {
     pub start: Start,
 }
@@ -433,7 +433,7 @@ impl Restriction {
 }
 
 // CTCS-3, reversing area.
-#[derive(Drop)]
+#[derive(Clone, Copy)]
 pub struct Reversing {
     pub start: Start,
 }
@@ -457,7 +457,7 @@ impl Reversing {
 }
 
 // CTCS-4, large-number turnout.
-#[derive(Drop)]
+#[derive(Clone, Copy)]
 pub struct Turnout {
     pub start: Start,
 }
@@ -481,7 +481,7 @@ impl Turnout {
 }
 
 // CTCS-5, absolute stop.
-#[derive(Drop)]
+#[derive(Clone, Copy)]
 pub struct Stopping {
     pub start: Start,
 }

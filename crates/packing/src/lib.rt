@@ -9,7 +9,7 @@ ghost use Rattle.packing.specs.Packing.{is_bit, binary, bit_of, bits_in, bytes_o
 use bits::{Cursor, Taken};
 
 // What packing a line finds: the count of its bits, that it has another character, or that what is lent is too short.
-#[derive(Drop)]
+#[derive(Clone, Copy)]
 pub enum Packed {
     Bits(usize),
     Other,

@@ -19,14 +19,14 @@ const BELOW_M_DUP: u64 = 32768;
 const BELOW_M_MCOUNT: u64 = 128;
 
 // Where a telegram stands: its first byte, and how many bits it has.
-#[derive(Drop)]
+#[derive(Clone, Copy)]
 pub struct Seat {
     pub start: usize,
     pub n: usize,
 }
 
 // A balise as it is met in the order of N_PIG: where its telegram stands, its M_DUP, and whether it counts, being no copy of the one before it.
-#[derive(Drop)]
+#[derive(Clone, Copy)]
 pub struct Balise {
     pub seat: Seat,
     pub dup: u64,

@@ -15,14 +15,14 @@ pub enum Reply {
 }
 
 // A row of a text: its field by number, its value and where the row ends; or that there is none.
-#[derive(Drop)]
+#[derive(Clone, Copy)]
 pub enum Row {
     Is(usize, u64, usize),
     Bad,
 }
 
 // How many rows a text has, or the first that is none.
-#[derive(Drop)]
+#[derive(Clone, Copy)]
 pub enum Rows {
     Read(usize),
     Bad(usize),

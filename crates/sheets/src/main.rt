@@ -21,7 +21,7 @@ const STDOUT: i32 = 1;
 const STDERR: i32 = 2;
 
 // What the arguments ask for.
-#[derive(Drop)]
+#[derive(Clone, Copy)]
 enum Way {
     Out,
     In,
@@ -36,8 +36,7 @@ fn main(rt: HostRuntime) {
     }
 }
 
-// The program's name is an argument too. A word of more than three characters, which is neither of the two, finds no room and is taken as
-// an empty one.
+// The program's name is an argument too. A word of more than three characters, which is neither of the two, finds no room.
 fn asked(rt: HostRuntime) -> Way {
     let mut space = [0u8; 3];
     if is_there(rt, 2) {

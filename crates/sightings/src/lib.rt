@@ -11,7 +11,7 @@ use clashes::exempt;
 use packets::heads::OUTER_HEAD;
 
 // What stands at a bit: a packet's NID_PACKET and Q_DIR, and how many bits further the next one begins; or no whole head.
-#[derive(Drop)]
+#[derive(Clone, Copy)]
 pub enum Sighting {
     Packet(u64, u64, usize),
     Nothing,

@@ -16,7 +16,7 @@ use packets::{
 };
 
 // A packet: how many values it has, none where it is not counted, and whether it is in metres or has no scale.
-#[derive(Drop)]
+#[derive(Clone, Copy)]
 pub struct Span {
     pub values: usize,
     pub metric: bool,

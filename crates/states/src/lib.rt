@@ -17,7 +17,7 @@ pub struct Todo {
 }
 
 // What is to be sent after a value, or that it is the end mark.
-#[derive(Drop)]
+#[derive(Clone, Copy)]
 pub enum Ahead {
     On(Todo),
     Mark,
@@ -47,7 +47,7 @@ pub struct State {
 }
 
 // What a value leads to.
-#[derive(Drop)]
+#[derive(Clone, Copy)]
 pub enum Outcome {
     Go(State),
     Over,
@@ -55,14 +55,14 @@ pub enum Outcome {
 }
 
 // Whether a value keeps the rule of its field.
-#[derive(Drop)]
+#[derive(Clone, Copy)]
 pub enum Verdict {
     Fine,
     Broken(Kind),
 }
 
 // Where a telegram stands behind fields that were gone past: what is to be sent there, the cursor, and how many fields they were.
-#[derive(Drop)]
+#[derive(Clone, Copy)]
 pub struct Reach {
     pub todo: Todo,
     pub cursor: Cursor,
@@ -70,7 +70,7 @@ pub struct Reach {
 }
 
 // Where a value leads of which nothing is kept: to a field, to the packet's end, or that more has to be known.
-#[derive(Drop)]
+#[derive(Clone, Copy)]
 pub enum Easy {
     To(Todo),
     Ends(Todo),
@@ -78,7 +78,7 @@ pub enum Easy {
 }
 
 // Where what is taken leads, if it keeps every rule; and else, that its fields have to be looked at one by one.
-#[derive(Drop)]
+#[derive(Clone, Copy)]
 pub enum Begun {
     To(State),
     Not,

@@ -37,7 +37,7 @@ pub fn check(s: &[u8], n: usize) -> Answer
 }
 
 // What the check finds: its answer, and whether it saw that every packet is in metres or has no scale.
-#[derive(Drop)]
+#[derive(Clone, Copy)]
 pub(crate) struct Found {
     pub answer: Answer,
     pub metric: bool,

@@ -15,7 +15,7 @@ use states::Begun;
 
 // Where it ends: before the packet or the end mark at the bit at, after so many values, and at 0 where not even the header is passed. over: behind the end
 // mark. metric: behind it, and every packet is in metres or has no scale.
-#[derive(Drop)]
+#[derive(Clone, Copy)]
 pub(crate) struct Swept {
     pub at: usize,
     pub count: usize,

@@ -6,7 +6,7 @@ ghost use Rattle.words.specs.Words.{up_to};
 ghost use Rattle.telegram_word.specs.Telegrams.{hex_of, hexed, in_pairs, bytes_in, bits_form, hex_form, telegram_in, Lends};
 
 // What a telegram word lends: how many bytes were put, and n; or that the word is none, or that there is no room for its bytes.
-#[derive(Drop)]
+#[derive(Clone, Copy)]
 pub enum Lent {
     Bytes(usize, u64),
     Not,

@@ -8,7 +8,7 @@ ghost use Rattle.value_list.specs.Values.{value_in, values_in, count_of, Taken, 
 use pieces::Number;
 
 // How many values a text has, or that it has something else, or too many.
-#[derive(Drop)]
+#[derive(Clone, Copy)]
 pub enum Values {
     Count(usize),
     Other,

@@ -17,7 +17,7 @@ abbrev pub Promise : Ended → Type 1
 Promise f = (κs : Lfts f.signature.lifetimes) → Args f.signature κs → Res f.signature κs → AtExit f κs → Type 0
 
 -- No two outcomes of the same call meet the promise. An outcome is the answer, and what stands at exit in everything that was lent by `&mut`.
--- Of a function f this is `OneOutcome f.ended f.Reads.Post`. Both are made of the function as it is written, its parameters and every clause of
+-- Of a function f this is `OneOutcome promises.f.ended f.Reads.Post`, where `promises` is its crate's `specs.contracts`. Both are made of the function as it is written, its parameters and every clause of
 -- its `ensures`: a promise that changes is held to it again.
 abbrev pub OneOutcome : (f : Ended) → Promise f → Type 0
 OneOutcome f Post =

@@ -5,7 +5,7 @@ ghost use Rattle.std.specs.Prelude.{◌≡◌, true, ◌+◌, ◌≤◌, length,
 ghost use Rattle.words.specs.Words.{up_to, word_end, number_in};
 
 // The number that a word is, or that it is none.
-#[derive(Drop)]
+#[derive(Clone, Copy)]
 pub enum Figure {
     Is(u64),
     Not,
