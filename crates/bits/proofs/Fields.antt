@@ -1,4 +1,6 @@
 -- The laws of taking and putting a field, for whoever goes by these definitions. Assumes nothing.
+use Rattle.std.specs.Prelude.{Some, None, Option}
+use Rattle.bits.proofs.Pairs.{held_both}
 use mathlib.Core.Path.{◌≡◌, refl, sym, ap, ◌∙◌, subst}
 use mathlib.Core.List.{List, ◌++◌}
 use mathlib.Core.Bool.{Bool, true, false, cond, ◌&&◌}
@@ -14,8 +16,6 @@ use Rattle.bits.specs.Bits.{digits, value_of, bits_of, bytes_for, bytes_of, Belo
 use Rattle.bits.specs.Take.{inside, field_bits, taken_if, taken_at, skip_at}
 use Rattle.bits.specs.Put.{over, put_at, Put}
 use Rattle.bits.specs.declared.Cursor.{Cursor}
-use Rattle.bits.specs.declared.Taken.TheVariants.{Field, Short}
-use Rattle.bits.specs.declared.Skipped.TheVariants.{To, Lacking}
 use Rattle.bits.proofs.Digits.{length_digits, below_digits, value_of_lt, value_of_digits, value_of_part}
 use Rattle.bits.proofs.Bytes.{below_append, below_take, below_drop, below_bits_of, length_bits_of, bytes_of_bits_of, bits_of_bytes_of_whole}
 
@@ -71,11 +71,11 @@ pub record IsField (s : List ℕ) (n width at v next : ℕ) : Type 0 where
 
 module _ (s : List ℕ) (n width at : ℕ) where
   by_tests : (v : ℕ) (c : Cursor) (p q r : Bool) → leb width 64 ≡ p → leb (at + width) n ≡ q → leb n (8 * length s) ≡ r
-      → taken_if (p && q && r) (Field (value_of (field_bits s width at)) (record { at = at + width })) ≡ Field v c
+      → taken_if (p && q && r) (Some (value_of (field_bits s width at), record { at = at + width })) ≡ Some (v, c)
       → IsField s n width at v c.at
   by_tests v c true true true hp hq hr e =
-      let ev : value_of (field_bits s width at) ≡ v = cc in
-      let ec : ◌≡◌ {A = Cursor} (record { at = at + width }) c = cc in
+      let found : ◌≡◌ {A = Option (ℕ × Cursor)} (Some (value_of (field_bits s width at), record { at = at + width })) (Some (v, c)) = cc in
+      let (ev, ec) = held_both _ _ _ _ found in
       let w = leb-true (at + width) n hq in
       let l = leb-true n (8 * length s) hr in
       record {
@@ -90,7 +90,7 @@ module _ (s : List ℕ) (n width at : ℕ) where
   by_tests v c true false r hp hq hr e = let z : ◌≡◌ {A = ℕ} 0 1 = cc in absurd (omega arith)
   by_tests v c false q r hp hq hr e = let z : ◌≡◌ {A = ℕ} 0 1 = cc in absurd (omega arith)
 
-  pub taken : (v : ℕ) (c : Cursor) → taken_at s n width at ≡ Field v c → IsField s n width at v c.at
+  pub taken : (v : ℕ) (c : Cursor) → taken_at s n width at ≡ Some (v, c) → IsField s n width at v c.at
   unfolding taken_at
   taken v c e = by_tests v c (leb width 64) (leb (at + width) n) (leb n (8 * length s)) refl refl refl e
 
@@ -99,29 +99,29 @@ module _ (s : List ℕ) (n width at : ℕ) where
   unfolding taken_at
   inside_field e = taken _ (record { at = at + width }) (rw e)
 
-  pub take_outside : inside s n width at ≡ false → taken_at s n width at ≡ Short
+  pub take_outside : inside s n width at ≡ false → taken_at s n width at ≡ None
   unfolding taken_at
   take_outside e = rw e
 
   -- a whole field is taken
   pub take_whole : width ≤ 64 → at + width ≤ n → n ≤ 8 * length s
-      → taken_at s n width at ≡ Field (value_of (field_bits s width at)) (record { at = at + width })
+      → taken_at s n width at ≡ Some (value_of (field_bits s width at), record { at = at + width })
   unfolding taken_at
   take_whole w h l = simp (le-leb width 64 w, le-leb (at + width) n h, le-leb n (8 * length s) l)
 
   -- one that ends past n is not
-  pub take_past : width ≤ 64 → n < at + width → taken_at s n width at ≡ Short
+  pub take_past : width ≤ 64 → n < at + width → taken_at s n width at ≡ None
   unfolding taken_at
   take_past w h = simp (le-leb width 64 w, lt-leb (at + width) n h)
 
 -- a part of a field that was taken, o bits from its first and low bits from its last
 pub take_part : (s : List ℕ) (n o w low at v x next : ℕ) → IsField s n (o + (w + low)) at v next → w ≤ 64 → v / 2 ^ low % 2 ^ w ≡ x
-    → taken_at s n w (at + o) ≡ Field x (record { at = at + o + w })
+    → taken_at s n w (at + o) ≡ Some (x, record { at = at + o + w })
 take_part s n o w low at v x next f l e =
     let g = f.within in
     let b = f.room in
     take_whole s n w (at + o) l (omega arith) b
-    ∙ ap (λ (y : ℕ). Field y (record { at = at + o + w })) (field_in_field s at o w low (omega arith) ∙ rw (← f.value) e)
+    ∙ ap (λ (y : ℕ). Some (y, record { at = at + o + w })) (field_in_field s at o w low (omega arith) ∙ rw (← f.value) e)
 
 -- ---- going past bits
 
@@ -131,21 +131,21 @@ pub record IsPast (n bits at next : ℕ) : Type 0 where
   pub past : next ≡ at + bits
 
 module _ (n bits at : ℕ) where
-  pub skip_whole : at + bits ≤ n → skip_at n bits at ≡ To (record { at = at + bits })
+  pub skip_whole : at + bits ≤ n → skip_at n bits at ≡ Some (record { at = at + bits })
   unfolding skip_at
   skip_whole h = rw (le-leb (at + bits) n h)
 
-  pub skip_past : n < at + bits → skip_at n bits at ≡ Lacking
+  pub skip_past : n < at + bits → skip_at n bits at ≡ None
   unfolding skip_at
   skip_past h = rw (lt-leb (at + bits) n h)
 
-  by_test : (c : Cursor) (b : Bool) → leb (at + bits) n ≡ b → cond b (To (record { at = at + bits })) Lacking ≡ To c → IsPast n bits at c.at
+  by_test : (c : Cursor) (b : Bool) → leb (at + bits) n ≡ b → cond b (Some (record { at = at + bits })) None ≡ Some c → IsPast n bits at c.at
   by_test c true h e =
       let ec : ◌≡◌ {A = Cursor} (record { at = at + bits }) c = cc in
       record { within = leb-true (at + bits) n h; past = sym (ap (λ (x : Cursor). x.at) ec) }
   by_test c false h e = let z : ◌≡◌ {A = ℕ} 0 1 = cc in absurd (omega arith)
 
-  pub skipped : (c : Cursor) → skip_at n bits at ≡ To c → IsPast n bits at c.at
+  pub skipped : (c : Cursor) → skip_at n bits at ≡ Some c → IsPast n bits at c.at
   unfolding skip_at
   skipped c e = by_test c (leb (at + bits) n) refl e
 

@@ -8,3 +8,4 @@ pub mod Loops
 pub mod Windows
 pub mod Sight
 pub mod Looked
+pub mod Pairs

@@ -1,4 +1,6 @@
 -- What lies ahead in a window of eight bytes: its number, and the fields in it. Assumes nothing.
+use Rattle.std.specs.Prelude.{Some, None, Option}
+use Rattle.bits.proofs.Pairs.{held_both}
 use mathlib.Core.Path.{◌≡◌, refl, sym, ap, ◌∙◌}
 use mathlib.Core.List.{List}
 use mathlib.Core.Bool.{Bool, true, false, ◌&&◌}
@@ -14,7 +16,6 @@ use Rattle.bits.specs.Bits.{value_of, bits_of}
 use Rattle.bits.specs.Take.{inside, field_bits, taken_if}
 use Rattle.bits.specs.Ahead.{window_byte, window_at, behind, in_sight, ahead_at}
 use Rattle.bits.specs.declared.Cursor.{Cursor}
-use Rattle.bits.specs.declared.Taken.TheVariants.{Field, Short}
 use Rattle.bits.proofs.Digits.{value_of_append}
 use Rattle.bits.proofs.Fields.{inside_field, field_in_field, length_field_bits}
 
@@ -87,10 +88,10 @@ pub record IsAhead (s : List ℕ) (n bits at w next : ℕ) : Type 0 where
 
 module _ (s : List ℕ) (n bits at : ℕ) where
   by_tests : (w : ℕ) (c : Cursor) (p q r t : Bool) → leb 1 bits ≡ p → leb bits 57 ≡ q → leb 8 (length s) ≡ r → inside s n bits at ≡ t
-      → taken_if (p && q && r && t) (Field (window_at s at) (record { at = at + bits })) ≡ Field w c → IsAhead s n bits at w c.at
+      → taken_if (p && q && r && t) (Some (window_at s at, record { at = at + bits })) ≡ Some (w, c) → IsAhead s n bits at w c.at
   by_tests w c true true true true hp hq hr ht e =
-      let ew : window_at s at ≡ w = cc in
-      let ec : ◌≡◌ {A = Cursor} (record { at = at + bits }) c = cc in
+      let found : ◌≡◌ {A = Option (ℕ × Cursor)} (Some (window_at s at, record { at = at + bits })) (Some (w, c)) = cc in
+      let (ew, ec) = held_both _ _ _ _ found in
       let f = inside_field s n bits at ht in
       let low = leb-true 1 bits hp in
       let a = f.within in
@@ -109,7 +110,7 @@ module _ (s : List ℕ) (n bits at : ℕ) where
   by_tests w c true false r t hp hq hr ht e = let z : ◌≡◌ {A = ℕ} 0 1 = cc in absurd (omega arith)
   by_tests w c false q r t hp hq hr ht e = let z : ◌≡◌ {A = ℕ} 0 1 = cc in absurd (omega arith)
 
-  pub sighted : (w : ℕ) (c : Cursor) → ahead_at s n bits at ≡ Field w c → IsAhead s n bits at w c.at
+  pub sighted : (w : ℕ) (c : Cursor) → ahead_at s n bits at ≡ Some (w, c) → IsAhead s n bits at w c.at
   unfolding ahead_at
   sighted w c e = by_tests w c (leb 1 bits) (leb bits 57) (leb 8 (length s)) (inside s n bits at) refl refl refl refl e
 
@@ -118,10 +119,10 @@ module _ (s : List ℕ) (n bits at : ℕ) where
   unfolding ahead_at
   seen e = sighted _ (record { at = at + bits }) (rw e)
 
-  pub sight_ends : in_sight s n bits at ≡ false → ahead_at s n bits at ≡ Short
+  pub sight_ends : in_sight s n bits at ≡ false → ahead_at s n bits at ≡ None
   unfolding ahead_at
   sight_ends e = rw e
 
-  pub sight_goes : in_sight s n bits at ≡ true → ahead_at s n bits at ≡ Field (window_at s at) (record { at = at + bits })
+  pub sight_goes : in_sight s n bits at ≡ true → ahead_at s n bits at ≡ Some (window_at s at, record { at = at + bits })
   unfolding ahead_at
   sight_goes e = rw e

@@ -1,9 +1,8 @@
 -- What lies ahead of a position, as one number of 64 bits, and the fields in it. Definitions alone.
-use Rattle.std.specs.Prelude.{List, Bool, cond, ◌&&◌, ℕ, ◌+◌, ◌-◌, ◌*◌, ◌/◌, ◌%◌, ◌^◌, min, length, drop, leb}
+use Rattle.std.specs.Prelude.{List, Bool, cond, ◌&&◌, ℕ, ◌+◌, ◌-◌, ◌*◌, ◌/◌, ◌%◌, ◌^◌, min, length, drop, leb, Some, Option}
 use Rattle.bits.specs.Bits.{value_of, bits_of, filled}
 use Rattle.bits.specs.Take.{inside, field_bits, taken_if}
-use Rattle.bits.specs.declared.Taken.{Taken}
-use Rattle.bits.specs.declared.Taken.TheVariants.{Field}
+use Rattle.bits.specs.declared.Cursor.{Cursor}
 
 -- the byte at which the window of a position begins: its own, or the eighth from the last
 abbrev pub window_byte : List ℕ → ℕ → ℕ
@@ -22,8 +21,8 @@ abbrev pub in_sight : List ℕ → ℕ → ℕ → ℕ → Bool
 in_sight s n bits at = leb 1 bits && leb bits 57 && leb 8 (length s) && inside s n bits at
 
 -- the window of a position with the position past so many bits, where they lie in it; else Short
-unfoldable pub ahead_at : List ℕ → ℕ → ℕ → ℕ → Taken
-ahead_at s n bits at = taken_if (in_sight s n bits at) (Field (window_at s at) (record { at = at + bits }))
+unfoldable pub ahead_at : List ℕ → ℕ → ℕ → ℕ → Option (ℕ × Cursor)
+ahead_at s n bits at = taken_if (in_sight s n bits at) (Some (window_at s at, record { at = at + bits }))
 
 -- the window of a position, wherever it is; nothing of fewer than eight bytes
 abbrev pub seen_at : List ℕ → ℕ → ℕ

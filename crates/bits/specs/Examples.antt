@@ -1,10 +1,8 @@
 -- Worked examples of the definitions, each computed by the checker. Assumes nothing.
-use Rattle.std.specs.Prelude.{◌≡◌, refl, [], ◌∷◌}
+use Rattle.std.specs.Prelude.{◌≡◌, refl, [], ◌∷◌, Some, None}
 use Rattle.bits.specs.Bits.{digits, value_of, bits_of, bytes_for, filled, packed, bytes_of}
 use Rattle.bits.specs.Take.{taken_at, skip_at}
 use Rattle.bits.specs.Put.{over, put_at}
-use Rattle.bits.specs.declared.Taken.TheVariants.{Field, Short}
-use Rattle.bits.specs.declared.Skipped.TheVariants.{To, Lacking}
 
 values : value_of [] ∷ value_of (1 ∷ 1 ∷ 0 ∷ []) ∷ value_of (0 ∷ 0 ∷ 1 ∷ []) ∷ [] ≡ 0 ∷ 6 ∷ 1 ∷ []
 unfolding value_of
@@ -32,15 +30,15 @@ fields : taken_at (0xab ∷ 0xcd ∷ []) 16 3 1 ∷ taken_at (0xab ∷ 0xcd ∷ 
     ∷ taken_at (0x01 ∷ 0x23 ∷ 0x45 ∷ 0x67 ∷ 0x89 ∷ 0xab ∷ 0xcd ∷ 0xef ∷ 0x12 ∷ []) 72 64 4 ∷ taken_at (0xab ∷ []) 8 0 8
     ∷ taken_at (0x01 ∷ 0x23 ∷ 0x45 ∷ 0x67 ∷ 0x89 ∷ 0xab ∷ 0xcd ∷ 0xef ∷ 0x12 ∷ []) 72 65 0
     ∷ taken_at (0xab ∷ 0xcd ∷ []) 11 8 4 ∷ taken_at (0xab ∷ 0xcd ∷ []) 17 8 4 ∷ []
-    ≡ Field 2 (record { at = 4 }) ∷ Field 0xbc (record { at = 12 })
-    ∷ Field 0x123456789abcdef1 (record { at = 68 }) ∷ Field 0 (record { at = 8 })
-    ∷ Short ∷ Short ∷ Short ∷ []
+    ≡ Some (2, record { at = 4 }) ∷ Some (0xbc, record { at = 12 })
+    ∷ Some (0x123456789abcdef1, record { at = 68 }) ∷ Some (0, record { at = 8 })
+    ∷ None ∷ None ∷ None ∷ []
 unfolding digits value_of bits_of taken_at
 fields = refl
 
 -- up to bit n, past more bits than a number has, of no bits, and one bit past n
 skips : skip_at 16 12 4 ∷ skip_at 830 100 58 ∷ skip_at 8 0 8 ∷ skip_at 16 13 4 ∷ []
-    ≡ To (record { at = 16 }) ∷ To (record { at = 158 }) ∷ To (record { at = 8 }) ∷ Lacking ∷ []
+    ≡ Some (record { at = 16 }) ∷ Some (record { at = 158 }) ∷ Some (record { at = 8 }) ∷ None ∷ []
 unfolding skip_at
 skips = refl
 

@@ -19,67 +19,53 @@ pub struct Cursor {
     pub at: usize,
 }
 
-// What taking a field finds: its number with the cursor past it, or that no whole field lies there.
-#[derive(Clone, Copy)]
-pub enum Taken {
-    Field(u64, Cursor),
-    Short,
-}
-
-// What going past bits finds: the cursor behind them, or that there are not so many.
-#[derive(Clone, Copy)]
-pub enum Skipped {
-    To(Cursor),
-    Lacking,
-}
-
 impl Cursor {
-    // The field of width bits that begins here in the first n bits of s, with the cursor moved on. Short where the width is
+    // The field of width bits that begins here in the first n bits of s, with the cursor moved on. None where the width is
     // above 64, where the field would end past bit n, and where s does not hold n bits.
     //
-    // Short has one return and Field one: the compiler then makes this code part of its caller.
-    pub fn take(self, s: &[u8], n: usize, width: usize) -> Taken
+    // None has one return and Some one: the compiler then makes this code part of its caller.
+    pub fn take(self, s: &[u8], n: usize, width: usize) -> Option<(u64, Cursor)>
         ensures { result ≡ taken_at s.now n width self.at }
     {
         let at = self.at;
         if !inside(s, n, at, width) {
-            return Taken::Short;
+            return None;
         }
         let v = if wide(s.len(), width) {
             joined(s, at, width)
         } else {
             windowed(s, at, width)
         };
-        Taken::Field(v, Cursor { at: at + width })
+        Some((v, Cursor { at: at + width }))
     }
 
-    // The cursor moved on past so many of the first n bits, whatever they hold. Lacking where that would be past bit n.
-    pub fn skip(self, n: usize, bits: usize) -> Skipped
+    // The cursor moved on past so many of the first n bits, whatever they hold. None where that would be past bit n.
+    pub fn skip(self, n: usize, bits: usize) -> Option<Cursor>
         ensures { result ≡ skip_at n bits self.at }
     {
         let at = self.at;
         if n < at {
-            return Skipped::Lacking;
+            return None;
         }
         if n - at < bits {
-            return Skipped::Lacking;
+            return None;
         }
-        Skipped::To(Cursor { at: at + bits })
+        Some(Cursor { at: at + bits })
     }
 
     // What lies ahead: a number of 64 bits in which the bits from here on stand in front, 57 of them or all that s has, with the cursor moved on past
-    // so many of them. Short where not one is to be gone past or more than 57 are, where the cursor would be past bit n, and where s does not hold n
+    // so many of them. None where not one is to be gone past or more than 57 are, where the cursor would be past bit n, and where s does not hold n
     // bits or has fewer than eight bytes.
-    pub fn ahead(self, s: &[u8], n: usize, bits: usize) -> Taken
+    pub fn ahead(self, s: &[u8], n: usize, bits: usize) -> Option<(u64, Cursor)>
         ensures { result ≡ ahead_at s.now n bits self.at }
     {
         let at = self.at;
         if !in_sight(s, n, at, bits) {
-            return Taken::Short;
+            return None;
         }
         let k = lower(at / 8, s.len() - 8);
         let w = eight(s, k) << (at - 8 * k);
-        Taken::Field(w, Cursor { at: at + bits })
+        Some((w, Cursor { at: at + bits }))
     }
 
     // What lies here: the same number, with 0 for each bit that s does not have. 0 where s has fewer than eight bytes.

@@ -17,21 +17,13 @@ pub fn exempt(id: u64) -> bool
 pub fn meets(name: u64, way: u64, id: u64, dir: u64) -> bool
     ensures { result ≡ (eqb id name && clash dir way) }
 {
-    if id != name {
-        return false;
-    }
-    directions_collide(dir, way)
+    id == name && directions_collide(dir, way)
 }
 
-// Whether two directions collide: one of them is both ways, or they are the same.
+// Whether two directions collide: one of them is both ways, or they are the same. They are values of Q_DIR and no enum: `clash` speaks of any two numbers.
+#[tactic(auto, unfolding(format::specs::Rules::clash))]
 fn directions_collide(d: u64, e: u64) -> bool
     ensures { result ≡ clash d e }
 {
-    if d == 2 {
-        return true;
-    }
-    if e == 2 {
-        return true;
-    }
-    d == e
+    d == 2 || e == 2 || d == e
 }

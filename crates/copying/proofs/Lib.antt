@@ -1,3 +1,2 @@
--- A list with the front of another over it; that the promise has one outcome.
-pub mod Pasted
+-- That the promise has one outcome.
 pub mod Once

@@ -1,3 +1,2 @@
 -- One answer to each promise.
-pub mod Scales
 pub mod Once

@@ -1,12 +1,9 @@
 -- docs/RULES.md, "Distances and the normal form": distances by the scale that a Q_SCALE is. Definitions and worked examples.
-use Rattle.std.specs.Prelude.{◌≡◌, refl, Bool, true, false, ◌&&◌, [], ◌∷◌, ℕ, zero, suc, ◌/◌, ◌%◌, ◌^◌, eqb, ltb}
+use Rattle.std.specs.Prelude.{◌≡◌, refl, Bool, true, false, ◌&&◌, [], ◌∷◌, ℕ, zero, suc, ◌/◌, ◌%◌, ◌^◌, eqb, ltb, Some, None, Option}
 use Rattle.distance.specs.Steps.{step, decimetres, steps}
 use Rattle.distance.specs.declared.Scale.{Scale}
 use Rattle.distance.specs.declared.Scale.TheVariants.{Tenths, Metres, Tens}
-use Rattle.distance.specs.declared.Scaled.{Scaled}
-use Rattle.distance.specs.declared.Scaled.TheVariants.{By, Not}
-use Rattle.distance.specs.declared.Told.{Told}
-use Rattle.distance.specs.declared.Told.TheVariants as told
+use Rattle.distance.specs.declared.Steps.{Steps}
 
 -- the Q_SCALE of a scale
 abbrev pub number_of : Scale → ℕ
@@ -14,24 +11,24 @@ number_of Tenths = 0
 number_of Metres = 1
 number_of Tens = 2
 
-unfoldable pub scaled_by : ℕ → Scaled
-scaled_by zero = By Tenths
-scaled_by (suc zero) = By Metres
-scaled_by (suc (suc zero)) = By Tens
-scaled_by (suc (suc (suc n))) = Not
+unfoldable pub scaled_by : ℕ → Option Scale
+scaled_by zero = Some Tenths
+scaled_by (suc zero) = Some Metres
+scaled_by (suc (suc zero)) = Some Tens
+scaled_by (suc (suc (suc n))) = None
 
 abbrev pub in_decimetres : Scale → ℕ → ℕ
 in_decimetres q n = decimetres (number_of q) n
 
-abbrev whole_if : Bool → ℕ → Told
-whole_if true n = told.Whole (record { 0 = n })
-whole_if false n = told.Not
+abbrev whole_if : Bool → ℕ → Option Steps
+whole_if true n = Some (record { 0 = n })
+whole_if false n = None
 
 -- d decimetres in steps of so many: a whole number that 32 bits hold, or not
-abbrev pub whole_steps : ℕ → ℕ → Told
+abbrev pub whole_steps : ℕ → ℕ → Option Steps
 whole_steps k d = whole_if (eqb (d % k) 0 && ltb (d / k) (2 ^ 32)) (d / k)
 
-abbrev pub in_steps : Scale → ℕ → Told
+abbrev pub in_steps : Scale → ℕ → Option Steps
 in_steps q d = whole_steps (step (number_of q)) d
 
 -- whether d decimetres are "a whole number of metres that fits" a field of w bits
@@ -43,7 +40,7 @@ examples : in_decimetres Tens 70 ∷ in_decimetres Metres 700 ∷ [] ≡ 7000 �
 examples = refl
 
 back : in_steps Metres 7000 ∷ in_steps Metres 1015 ∷ in_steps Tenths 1015 ∷ []
-    ≡ told.Whole (record { 0 = 700 }) ∷ told.Not ∷ told.Whole (record { 0 = 1015 }) ∷ []
+    ≡ Some (record { 0 = 700 }) ∷ None ∷ Some (record { 0 = 1015 }) ∷ []
 back = refl
 
 -- 90,000 steps of 10 m are 900,000 m, which 20 bits hold, and 110,000 are too many

@@ -22,30 +22,17 @@ pub struct Steps(u32);
 #[derive(Clone, Copy)]
 pub struct Decimetres(u64);
 
-// The scale that a Q_SCALE is, if it is one.
-#[derive(Clone, Copy)]
-pub enum Scaled {
-    By(Scale),
-    Not,
-}
-
-// What decimetres are in steps of a scale: whole steps, or not a number of steps.
-#[derive(Clone, Copy)]
-pub enum Told {
-    Whole(Steps),
-    Not,
-}
-
 impl Scale {
-    // Q_SCALE 0, 1, 2.
-    pub fn of(q: u64) -> Scaled
+    // Q_SCALE 0, 1, 2. No TryFrom: it would be no plainer, with an error type that says no more than None.
+    #[tactic(auto, unfolding(crate::specs::Distance::scaled_by))]
+    pub fn of(q: u64) -> Option<Scale>
         ensures { result ≡ scaled_by q }
     {
         match q {
-            0 => Scaled::By(Scale::Tenths),
-            1 => Scaled::By(Scale::Metres),
-            2 => Scaled::By(Scale::Tens),
-            _ => Scaled::Not,
+            0 => Some(Scale::Tenths),
+            1 => Some(Scale::Metres),
+            2 => Some(Scale::Tens),
+            _ => None,
         }
     }
 
@@ -62,6 +49,7 @@ impl Scale {
 }
 
 impl Steps {
+    // No From, here and below: no plainer, as into would not say in words which quantity a number becomes.
     pub fn new(number: u32) -> Self
         ensures { result.0 ≡ number }
     {
@@ -104,29 +92,20 @@ impl Decimetres {
     }
 
     // How many steps of a packet's scale these decimetres are. Not, where that is no whole number or is too large.
-    pub fn steps(self, q: Scale) -> Told
+    pub fn steps(self, q: Scale) -> Option<Steps>
         ensures { result ≡ in_steps q self.0 }
     {
-        let d = self.0;
-        match q {
-            Scale::Tenths => whole(d, 1),
-            Scale::Metres => whole(d, 10),
-            Scale::Tens => whole(d, 100),
-        }
+        whole(self.0, q.step())
     }
 }
 
 // How many steps of step decimetres d are.
-fn whole(d: u64, step: u64) -> Told
+fn whole(d: u64, step: u64) -> Option<Steps>
     requires { 0 < step }
     ensures { result ≡ whole_steps step d }
 {
-    let n = d / step;
     if d % step != 0 {
-        return Told::Not;
+        return None;
     }
-    if 4294967295 < n {
-        return Told::Not;
-    }
-    Told::Whole(Steps(n as u32))
+    u32::try_from(d / step).ok().map(Steps)
 }

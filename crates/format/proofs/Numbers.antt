@@ -1,4 +1,5 @@
 -- An answer is known by its number and its value: no two answers have the same. Assumes nothing.
+use Rattle.std.specs.Prelude.{Ok, Err}
 use mathlib.Core.Bool.{true}
 use mathlib.Core.List.{[], ◌∷◌}
 use mathlib.Core.Path.{◌≡◌, refl, sym, ap, ap₂, ◌∙◌}
@@ -7,9 +8,7 @@ use native.Mathlib.Omega.{arith}
 use borrow.Author.Tests.{leb-true}
 use lib.Dec.{leb}
 use lib.ListN.{get_or}
-use Rattle.format.specs.Refusals.{number_of, in_numbers}
-use Rattle.format.specs.declared.Answer.{Answer}
-use Rattle.format.specs.declared.Answer.TheVariants.{Accepted, Refused}
+use Rattle.format.specs.Refusals.{number_of, in_numbers, Answer}
 use Rattle.format.specs.declared.Kind.{Kind}
 use Rattle.format.specs.declared.Kind.TheVariants.{Room, Size, Padding, Header, Ended, Unknown, Value, Length, Direction, Repeated, Trailing, Wide, Full}
 use Rattle.format.specs.declared.Refusal.{Refusal}
@@ -68,7 +67,7 @@ pub value_same : {x y : ℕ × ℕ} → x ≡ y → x.1 ≡ y.1
 value_same h = ap (λ (x : ℕ × ℕ). x.1) h
 
 pub answer_is : (a b : Answer) → in_numbers a ≡ in_numbers b → a ≡ b
-answer_is (Accepted m) (Accepted n) h = ap Accepted (value_same h)
-answer_is (Accepted m) (Refused q) h = let i = number_in q.kind in absurd (omega (arith, number_same h))
-answer_is (Refused r) (Accepted n) h = let i = number_in r.kind in absurd (omega (arith, number_same h))
-answer_is (Refused r) (Refused q) h = ap Refused (refusal_is r q (number_same h) (value_same h))
+answer_is (Ok m) (Ok n) h = ap Ok (value_same h)
+answer_is (Ok m) (Err q) h = let i = number_in q.kind in absurd (omega (arith, number_same h))
+answer_is (Err r) (Ok n) h = let i = number_in r.kind in absurd (omega (arith, number_same h))
+answer_is (Err r) (Err q) h = ap Err (refusal_is r q (number_same h) (value_same h))

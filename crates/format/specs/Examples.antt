@@ -1,6 +1,6 @@
 -- Worked telegrams for each rule, computed by the checker: what the definitions answer to lists of values. The cases of docs/RULES.md are not
 -- among them: they are the table of the crate `cases`. Assumes nothing.
-use Rattle.std.specs.Prelude.{◌≡◌, refl, List, [], ◌∷◌, ◌++◌, map, ℕ, eqb}
+use Rattle.std.specs.Prelude.{◌≡◌, refl, List, [], ◌∷◌, ◌++◌, map, ℕ, eqb, Ok, Err}
 use Prim.Native.String.{String}
 use Rattle.std.proofs.Common.{arith}
 use Rattle.format.specs.Among.{holding, Inside, size_at, takes, Fitting, Misfitting}
@@ -10,12 +10,11 @@ use Rattle.format.specs.Refusals.{in_numbers}
 use Rattle.format.specs.Rules.{Terms, begun, next, misdirected, broken, noted, closes, settled, onward, step, radio_from, spot_of, spot_at, place_from, field_place, clash, among, collides_by, paper}
 use Rattle.format.specs.Telegrams.{Result, names, places, bit_count, from_values, drive, write}
 use Rattle.format.specs.Telegrams.Result.{accepted, refused}
-use Rattle.format.specs.declared.Answer.TheVariants.{Accepted, Refused}
 
 -- the writer's answer in numbers: 0 and the bits of an accepted telegram, or the number and the place of a refusal
 abbrev said : Result → ℕ × ℕ
-said (accepted es) = in_numbers (Accepted (bit_count es))
-said (refused r) = in_numbers (Refused r)
+said (accepted es) = in_numbers (Ok (bit_count es))
+said (refused r) = in_numbers (Err r)
 
 unfoldable pub written_by : Terms → List ℕ → Result
 unfolding write drive begun from_values step next find etcs ctcs header times ◌⧺◌ broken misdirected noted settled onward closes radio_from spot_of spot_at place_from field_place collides_by among clash

@@ -1,9 +1,12 @@
 -- docs/RULES.md, "Refusal numbers": the number of each kind, and what an answer says in numbers. Definitions alone.
-use Rattle.std.specs.Prelude.{ℕ, ◌+◌, ◌*◌}
+use Rattle.std.specs.Prelude.{ℕ, ◌+◌, ◌*◌, Result, Ok, Err}
 use Rattle.format.specs.declared.Kind.{Kind}
+use Rattle.format.specs.declared.Refusal.{Refusal}
 use Rattle.format.specs.declared.Kind.TheVariants.{Room, Size, Padding, Header, Ended, Unknown, Value, Length, Direction, Repeated, Trailing, Wide, Full}
-use Rattle.format.specs.declared.Answer.{Answer}
-use Rattle.format.specs.declared.Answer.TheVariants.{Accepted, Refused}
+
+-- what a reader, a writer or a normaliser answers: accepted, with a count, or refused
+abbrev pub Answer : Type 0
+Answer = Result ℕ Refusal
 
 abbrev pub number_of : Kind → ℕ
 -- output shorter than 830 values or 104 bytes
@@ -36,10 +39,10 @@ number_of Full = 13
 -- "When an answer is an enum, a definition specifies [the rules'] number and values for each of its cases": 0 and what is given; or the
 -- refusal's number and its place. `answer-is` in proofs/Numbers.antt says that an answer is known by them.
 abbrev pub in_numbers : Answer → ℕ × ℕ
-in_numbers (Accepted given) = (0, given)
-in_numbers (Refused r) = (number_of r.kind, r.place)
+in_numbers (Ok given) = (0, given)
+in_numbers (Err r) = (number_of r.kind, r.place)
 
 -- "there the answer is 0, or 1,024 times the refusal number plus the place"
 abbrev pub code_of : Answer → ℕ
-code_of (Accepted given) = 0
-code_of (Refused r) = 1024 * (in_numbers (Refused r)).0 + (in_numbers (Refused r)).1
+code_of (Ok given) = 0
+code_of (Err r) = 1024 * (in_numbers (Err r)).0 + (in_numbers (Err r)).1

@@ -1,55 +1,63 @@
 // The kinds of packets. Each keeps its identifier, the bits of its head and the row at which its fields begin with the kind.
-#![tactic(auto)]
+#![tactic(auto, unfolding(format::specs::Kinds::etcs_start, format::specs::Kinds::ctcs_start))]
 
 ghost use Rattle.std.specs.Prelude.{◌≡◌};
 ghost use Rattle.format.specs.Kinds.{etcs_start, ctcs_start};
+ghost use Rattle.format.specs.declared.Start.{Start};
 
 pub mod heads;
 
 use format::Start;
 
-// The packet that an NID_PACKET begins.
+// A kind of packet. Its identifier and the bits of its head are constants of the kind itself, since no constant's value may read a trait's, as those
+// in heads.rt read a head.
+pub trait Packet {
+    // what the tables say of the identifier
+    ghost START: { Start };
+
+    // Where a packet of the kind begins.
+    const START: Start;
+}
+
+// The packet that an NID_PACKET begins. No Option: where there is none, `etcs_start`, of which the theorems above speak, is row 0 and head 0.
 pub fn etcs(v: u64) -> Start
     ensures { result ≡ etcs_start v }
 {
     match v {
-        Linking::ID => Linking::new().start,
-        Gradient::ID => Gradient::new().start,
-        Speed::ID => Speed::new().start,
-        Level::ID => Level::new().start,
-        Session::ID => Session::new().start,
-        National::ID => National::new().start,
-        Conditional::ID => Conditional::new().start,
-        Track::ID => Track::new().start,
-        Text::ID => Text::new().start,
-        Position::ID => Position::new().start,
-        Transition::ID => Transition::new().start,
-        Shunting::ID => Shunting::new().start,
-        Sight::ID => Sight::new().start,
-        Default::ID => Default::new().start,
+        Linking::ID => Linking::START,
+        Gradient::ID => Gradient::START,
+        Speed::ID => Speed::START,
+        Level::ID => Level::START,
+        Session::ID => Session::START,
+        National::ID => National::START,
+        Conditional::ID => Conditional::START,
+        Track::ID => Track::START,
+        Text::ID => Text::START,
+        Position::ID => Position::START,
+        Transition::ID => Transition::START,
+        Shunting::ID => Shunting::START,
+        Sight::ID => Sight::START,
+        Default::ID => Default::START,
         _ => Start { row: 0, head: 0 },
     }
 }
 
-// The CTCS packet that an NID_XUSER begins.
+// The CTCS packet that an NID_XUSER begins, and so with `ctcs_start`.
 pub fn ctcs(v: u64) -> Start
     ensures { result ≡ ctcs_start v }
 {
     match v {
-        Circuits::ID => Circuits::new().start,
-        Restriction::ID => Restriction::new().start,
-        Reversing::ID => Reversing::new().start,
-        Turnout::ID => Turnout::new().start,
-        Stopping::ID => Stopping::new().start,
+        Circuits::ID => Circuits::START,
+        Restriction::ID => Restriction::START,
+        Reversing::ID => Reversing::START,
+        Turnout::ID => Turnout::START,
+        Stopping::ID => Stopping::START,
         _ => Start { row: 0, head: 0 },
     }
 }
 
 // ETCS-5, linking.
-#[derive(Clone, Copy)]
-pub struct Linking {
-    pub start: Start,
-}
+pub struct Linking;
 
 impl Linking {
     pub const ID: u64 = 5;
@@ -57,23 +65,19 @@ impl Linking {
     pub const HEAD: usize = 25;
 
     const ROW: usize = 12;
+}
 
-    pub fn new() -> Self
-        ensures { result.start ≡ etcs_start 5 }
-    {
-        let start = Start {
-            row: Self::ROW,
-            head: Self::HEAD,
-        };
-        Self { start }
-    }
+impl Packet for Linking {
+    ghost START = { etcs_start 5 };
+
+    const START: Start = Start {
+        row: Self::ROW,
+        head: Self::HEAD,
+    };
 }
 
 // ETCS-21, gradient profile.
-#[derive(Clone, Copy)]
-pub struct Gradient {
-    pub start: Start,
-}
+pub struct Gradient;
 
 impl Gradient {
     pub const ID: u64 = 21;
@@ -81,23 +85,19 @@ impl Gradient {
     pub const HEAD: usize = 25;
 
     const ROW: usize = 32;
+}
 
-    pub fn new() -> Self
-        ensures { result.start ≡ etcs_start 21 }
-    {
-        let start = Start {
-            row: Self::ROW,
-            head: Self::HEAD,
-        };
-        Self { start }
-    }
+impl Packet for Gradient {
+    ghost START = { etcs_start 21 };
+
+    const START: Start = Start {
+        row: Self::ROW,
+        head: Self::HEAD,
+    };
 }
 
 // ETCS-27, static speed profile.
-#[derive(Clone, Copy)]
-pub struct Speed {
-    pub start: Start,
-}
+pub struct Speed;
 
 impl Speed {
     pub const ID: u64 = 27;
@@ -105,23 +105,19 @@ impl Speed {
     pub const HEAD: usize = 25;
 
     const ROW: usize = 44;
+}
 
-    pub fn new() -> Self
-        ensures { result.start ≡ etcs_start 27 }
-    {
-        let start = Start {
-            row: Self::ROW,
-            head: Self::HEAD,
-        };
-        Self { start }
-    }
+impl Packet for Speed {
+    ghost START = { etcs_start 27 };
+
+    const START: Start = Start {
+        row: Self::ROW,
+        head: Self::HEAD,
+    };
 }
 
 // ETCS-41, level transition.
-#[derive(Clone, Copy)]
-pub struct Level {
-    pub start: Start,
-}
+pub struct Level;
 
 impl Level {
     pub const ID: u64 = 41;
@@ -129,23 +125,19 @@ impl Level {
     pub const HEAD: usize = 25;
 
     const ROW: usize = 64;
+}
 
-    pub fn new() -> Self
-        ensures { result.start ≡ etcs_start 41 }
-    {
-        let start = Start {
-            row: Self::ROW,
-            head: Self::HEAD,
-        };
-        Self { start }
-    }
+impl Packet for Level {
+    ghost START = { etcs_start 41 };
+
+    const START: Start = Start {
+        row: Self::ROW,
+        head: Self::HEAD,
+    };
 }
 
 // ETCS-42, session with a radio block centre.
-#[derive(Clone, Copy)]
-pub struct Session {
-    pub start: Start,
-}
+pub struct Session;
 
 impl Session {
     pub const ID: u64 = 42;
@@ -153,23 +145,19 @@ impl Session {
     pub const HEAD: usize = 23;
 
     const ROW: usize = 77;
+}
 
-    pub fn new() -> Self
-        ensures { result.start ≡ etcs_start 42 }
-    {
-        let start = Start {
-            row: Self::ROW,
-            head: Self::HEAD,
-        };
-        Self { start }
-    }
+impl Packet for Session {
+    ghost START = { etcs_start 42 };
+
+    const START: Start = Start {
+        row: Self::ROW,
+        head: Self::HEAD,
+    };
 }
 
 // ETCS-44, which holds a CTCS packet.
-#[derive(Clone, Copy)]
-pub struct National {
-    pub start: Start,
-}
+pub struct National;
 
 impl National {
     pub const ID: u64 = 44;
@@ -180,23 +168,19 @@ impl National {
 
     // The row in which the CTCS packet is due, behind those of Q_DIR and L_PACKET. No other kind has one.
     pub const INNER_ROW: usize = Self::ROW + 2;
+}
 
-    pub fn new() -> Self
-        ensures { result.start ≡ etcs_start 44 }
-    {
-        let start = Start {
-            row: Self::ROW,
-            head: Self::HEAD,
-        };
-        Self { start }
-    }
+impl Packet for National {
+    ghost START = { etcs_start 44 };
+
+    const START: Start = Start {
+        row: Self::ROW,
+        head: Self::HEAD,
+    };
 }
 
 // ETCS-46, conditional level transition.
-#[derive(Clone, Copy)]
-pub struct Conditional {
-    pub start: Start,
-}
+pub struct Conditional;
 
 impl Conditional {
     pub const ID: u64 = 46;
@@ -204,23 +188,19 @@ impl Conditional {
     pub const HEAD: usize = 23;
 
     const ROW: usize = 88;
+}
 
-    pub fn new() -> Self
-        ensures { result.start ≡ etcs_start 46 }
-    {
-        let start = Start {
-            row: Self::ROW,
-            head: Self::HEAD,
-        };
-        Self { start }
-    }
+impl Packet for Conditional {
+    ghost START = { etcs_start 46 };
+
+    const START: Start = Start {
+        row: Self::ROW,
+        head: Self::HEAD,
+    };
 }
 
 // ETCS-68, track conditions.
-#[derive(Clone, Copy)]
-pub struct Track {
-    pub start: Start,
-}
+pub struct Track;
 
 impl Track {
     pub const ID: u64 = 68;
@@ -228,23 +208,19 @@ impl Track {
     pub const HEAD: usize = 25;
 
     const ROW: usize = 97;
+}
 
-    pub fn new() -> Self
-        ensures { result.start ≡ etcs_start 68 }
-    {
-        let start = Start {
-            row: Self::ROW,
-            head: Self::HEAD,
-        };
-        Self { start }
-    }
+impl Packet for Track {
+    ghost START = { etcs_start 68 };
+
+    const START: Start = Start {
+        row: Self::ROW,
+        head: Self::HEAD,
+    };
 }
 
 // ETCS-72, plain text.
-#[derive(Clone, Copy)]
-pub struct Text {
-    pub start: Start,
-}
+pub struct Text;
 
 impl Text {
     pub const ID: u64 = 72;
@@ -252,23 +228,19 @@ impl Text {
     pub const HEAD: usize = 25;
 
     const ROW: usize = 112;
+}
 
-    pub fn new() -> Self
-        ensures { result.start ≡ etcs_start 72 }
-    {
-        let start = Start {
-            row: Self::ROW,
-            head: Self::HEAD,
-        };
-        Self { start }
-    }
+impl Packet for Text {
+    ghost START = { etcs_start 72 };
+
+    const START: Start = Start {
+        row: Self::ROW,
+        head: Self::HEAD,
+    };
 }
 
 // ETCS-79, geographical position.
-#[derive(Clone, Copy)]
-pub struct Position {
-    pub start: Start,
-}
+pub struct Position;
 
 impl Position {
     pub const ID: u64 = 79;
@@ -276,23 +248,19 @@ impl Position {
     pub const HEAD: usize = 25;
 
     const ROW: usize = 131;
+}
 
-    pub fn new() -> Self
-        ensures { result.start ≡ etcs_start 79 }
-    {
-        let start = Start {
-            row: Self::ROW,
-            head: Self::HEAD,
-        };
-        Self { start }
-    }
+impl Packet for Position {
+    ghost START = { etcs_start 79 };
+
+    const START: Start = Start {
+        row: Self::ROW,
+        head: Self::HEAD,
+    };
 }
 
 // ETCS-131, transition between radio block centres.
-#[derive(Clone, Copy)]
-pub struct Transition {
-    pub start: Start,
-}
+pub struct Transition;
 
 impl Transition {
     pub const ID: u64 = 131;
@@ -300,23 +268,19 @@ impl Transition {
     pub const HEAD: usize = 25;
 
     const ROW: usize = 149;
+}
 
-    pub fn new() -> Self
-        ensures { result.start ≡ etcs_start 131 }
-    {
-        let start = Start {
-            row: Self::ROW,
-            head: Self::HEAD,
-        };
-        Self { start }
-    }
+impl Packet for Transition {
+    ghost START = { etcs_start 131 };
+
+    const START: Start = Start {
+        row: Self::ROW,
+        head: Self::HEAD,
+    };
 }
 
 // ETCS-132, danger for shunting.
-#[derive(Clone, Copy)]
-pub struct Shunting {
-    pub start: Start,
-}
+pub struct Shunting;
 
 impl Shunting {
     pub const ID: u64 = 132;
@@ -324,23 +288,19 @@ impl Shunting {
     pub const HEAD: usize = 23;
 
     const ROW: usize = 158;
+}
 
-    pub fn new() -> Self
-        ensures { result.start ≡ etcs_start 132 }
-    {
-        let start = Start {
-            row: Self::ROW,
-            head: Self::HEAD,
-        };
-        Self { start }
-    }
+impl Packet for Shunting {
+    ghost START = { etcs_start 132 };
+
+    const START: Start = Start {
+        row: Self::ROW,
+        head: Self::HEAD,
+    };
 }
 
 // ETCS-137, stop if in staff responsible.
-#[derive(Clone, Copy)]
-pub struct Sight {
-    pub start: Start,
-}
+pub struct Sight;
 
 impl Sight {
     pub const ID: u64 = 137;
@@ -348,23 +308,19 @@ impl Sight {
     pub const HEAD: usize = 23;
 
     const ROW: usize = 162;
+}
 
-    pub fn new() -> Self
-        ensures { result.start ≡ etcs_start 137 }
-    {
-        let start = Start {
-            row: Self::ROW,
-            head: Self::HEAD,
-        };
-        Self { start }
-    }
+impl Packet for Sight {
+    ghost START = { etcs_start 137 };
+
+    const START: Start = Start {
+        row: Self::ROW,
+        head: Self::HEAD,
+    };
 }
 
 // ETCS-254, default balise information.
-#[derive(Clone, Copy)]
-pub struct Default {
-    pub start: Start,
-}
+pub struct Default;
 
 impl Default {
     pub const ID: u64 = 254;
@@ -372,23 +328,19 @@ impl Default {
     pub const HEAD: usize = 23; // head A, and no field behind it
 
     const ROW: usize = 166;
+}
 
-    pub fn new() -> Self
-        ensures { result.start ≡ etcs_start 254 }
-    {
-        let start = Start {
-            row: Self::ROW,
-            head: Self::HEAD,
-        };
-        Self { start }
-    }
+impl Packet for Default {
+    ghost START = { etcs_start 254 };
+
+    const START: Start = Start {
+        row: Self::ROW,
+        head: Self::HEAD,
+    };
 }
 
 // CTCS-1, track circuits.
-#[derive(Clone, Copy)]
-pub struct Circuits {
-    pub start: Start,
-}
+pub struct Circuits;
 
 impl Circuits {
     pub const ID: u64 = 1;
@@ -396,23 +348,19 @@ impl Circuits {
     pub const HEAD: usize = 26;
 
     const ROW: usize = 169;
+}
 
-    pub fn new() -> Self
-        ensures { result.start ≡ ctcs_start 1 }
-    {
-        let start = Start {
-            row: Self::ROW,
-            head: Self::HEAD,
-        };
-        Self { start }
-    }
+impl Packet for Circuits {
+    ghost START = { ctcs_start 1 };
+
+    const START: Start = Start {
+        row: Self::ROW,
+        head: Self::HEAD,
+    };
 }
 
 // CTCS-2, temporary speed restriction.
-#[derive(Clone, Copy)]
-pub struct Restriction {
-    pub start: Start,
-}
+pub struct Restriction;
 
 impl Restriction {
     pub const ID: u64 = 2;
@@ -420,23 +368,19 @@ impl Restriction {
     pub const HEAD: usize = 26;
 
     const ROW: usize = 182;
+}
 
-    pub fn new() -> Self
-        ensures { result.start ≡ ctcs_start 2 }
-    {
-        let start = Start {
-            row: Self::ROW,
-            head: Self::HEAD,
-        };
-        Self { start }
-    }
+impl Packet for Restriction {
+    ghost START = { ctcs_start 2 };
+
+    const START: Start = Start {
+        row: Self::ROW,
+        head: Self::HEAD,
+    };
 }
 
 // CTCS-3, reversing area.
-#[derive(Clone, Copy)]
-pub struct Reversing {
-    pub start: Start,
-}
+pub struct Reversing;
 
 impl Reversing {
     pub const ID: u64 = 3;
@@ -444,23 +388,19 @@ impl Reversing {
     pub const HEAD: usize = 26;
 
     const ROW: usize = 197;
+}
 
-    pub fn new() -> Self
-        ensures { result.start ≡ ctcs_start 3 }
-    {
-        let start = Start {
-            row: Self::ROW,
-            head: Self::HEAD,
-        };
-        Self { start }
-    }
+impl Packet for Reversing {
+    ghost START = { ctcs_start 3 };
+
+    const START: Start = Start {
+        row: Self::ROW,
+        head: Self::HEAD,
+    };
 }
 
 // CTCS-4, large-number turnout.
-#[derive(Clone, Copy)]
-pub struct Turnout {
-    pub start: Start,
-}
+pub struct Turnout;
 
 impl Turnout {
     pub const ID: u64 = 4;
@@ -468,23 +408,19 @@ impl Turnout {
     pub const HEAD: usize = 26;
 
     const ROW: usize = 203;
+}
 
-    pub fn new() -> Self
-        ensures { result.start ≡ ctcs_start 4 }
-    {
-        let start = Start {
-            row: Self::ROW,
-            head: Self::HEAD,
-        };
-        Self { start }
-    }
+impl Packet for Turnout {
+    ghost START = { ctcs_start 4 };
+
+    const START: Start = Start {
+        row: Self::ROW,
+        head: Self::HEAD,
+    };
 }
 
 // CTCS-5, absolute stop.
-#[derive(Clone, Copy)]
-pub struct Stopping {
-    pub start: Start,
-}
+pub struct Stopping;
 
 impl Stopping {
     pub const ID: u64 = 5;
@@ -492,14 +428,13 @@ impl Stopping {
     pub const HEAD: usize = 24;
 
     const ROW: usize = 209;
+}
 
-    pub fn new() -> Self
-        ensures { result.start ≡ ctcs_start 5 }
-    {
-        let start = Start {
-            row: Self::ROW,
-            head: Self::HEAD,
-        };
-        Self { start }
-    }
+impl Packet for Stopping {
+    ghost START = { ctcs_start 5 };
+
+    const START: Start = Start {
+        row: Self::ROW,
+        head: Self::HEAD,
+    };
 }

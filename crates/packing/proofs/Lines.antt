@@ -1,4 +1,5 @@
 -- The laws of lines of characters, and what the code's loops stand on. Assumes nothing.
+use Rattle.std.specs.Prelude.{Ok, Err}
 use mathlib.Core.Path.{◌≡◌, refl, sym, ap, ap₂, ◌∙◌, subst}
 use mathlib.Core.Bool.{Bool, true, false, cond, ◌&&◌}
 use mathlib.Core.List.{List, [], ◌∷◌, ◌++◌}
@@ -15,7 +16,7 @@ use Rattle.bits.specs.Bits.{value_of, filled, packed, bytes_of, bytes_for, Below
 use Rattle.bits.proofs.Digits.{value_of_append, value_of_lt}
 use Rattle.bits.proofs.Bytes.{length_filled, below_filled, filled_add, length_packed, below_drop}
 use Rattle.packing.specs.Packing.{is_bit, binary, bit_of, bits_in, bytes_over, packed_of, pack_into, Pack}
-use Rattle.packing.specs.declared.Packed.TheVariants.{Bits, Other, Room}
+use Rattle.packing.specs.declared.PackError.TheVariants.{Other, Room}
 
 -- ---- the characters of a line
 
@@ -115,11 +116,11 @@ stored_all line before k e =
 -- ---- the promise of `pack`, by the tests that it makes
 
 module _ (line before : List ℕ) where
-  pub pack_other : binary line ≡ false → Pack line before Other before
+  pub pack_other : binary line ≡ false → Pack line before (Err Other) before
   unfolding packed_of pack_into
   pack_other b = record { answer = simp b; contents = simp b }
 
-  pub pack_roomless : binary line ≡ true → length before < bytes_for (length line) → Pack line before Room before
+  pub pack_roomless : binary line ≡ true → length before < bytes_for (length line) → Pack line before (Err Room) before
   unfolding packed_of pack_into
   pack_roomless b h = record {
     answer = simp (b, lt-leb (bytes_for (length line)) (length before) h);
@@ -127,7 +128,7 @@ module _ (line before : List ℕ) where
   }
 
   pub pack_whole : binary line ≡ true → bytes_for (length line) ≤ length before
-      → Pack line before (Bits (length line)) (bytes_over line before)
+      → Pack line before (Ok (length line)) (bytes_over line before)
   unfolding packed_of pack_into
   pack_whole b h = record {
     answer = simp (b, le-leb (bytes_for (length line)) (length before) h);

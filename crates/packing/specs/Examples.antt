@@ -1,18 +1,18 @@
 -- Worked examples of the definitions, each computed by the checker. Assumes nothing.
-use Rattle.std.specs.Prelude.{◌≡◌, refl, [], ◌∷◌}
+use Rattle.std.specs.Prelude.{◌≡◌, refl, [], ◌∷◌, Ok, Err}
 use Rattle.bits.specs.Bits.{value_of, filled, packed, bytes_of}
 use Rattle.packing.specs.Packing.{binary, bytes_over, packed_of, pack_into, characters}
-use Rattle.packing.specs.declared.Packed.TheVariants.{Bits, Other, Room}
+use Rattle.packing.specs.declared.PackError.TheVariants.{Other, Room}
 
 -- no character, 0 and 1, a character above 1, one below 0, and a carriage return at the end
 answers : packed_of [] [] ∷ packed_of (48 ∷ 49 ∷ []) (7 ∷ []) ∷ packed_of (48 ∷ 50 ∷ []) (7 ∷ []) ∷ packed_of (47 ∷ 49 ∷ []) (7 ∷ [])
     ∷ packed_of (49 ∷ 13 ∷ []) (7 ∷ []) ∷ []
-    ≡ Bits 0 ∷ Bits 2 ∷ Other ∷ Other ∷ Other ∷ []
+    ≡ Ok 0 ∷ Ok 2 ∷ (Err Other) ∷ (Err Other) ∷ (Err Other) ∷ []
 unfolding binary packed_of
 answers = refl
 
 -- nine characters take two bytes; another character is told before the room is
-rooms : packed_of (49 ∷ 48 ∷ 48 ∷ 48 ∷ 48 ∷ 48 ∷ 48 ∷ 48 ∷ 49 ∷ []) (7 ∷ []) ∷ packed_of (49 ∷ 48 ∷ 50 ∷ []) [] ∷ [] ≡ Room ∷ Other ∷ []
+rooms : packed_of (49 ∷ 48 ∷ 48 ∷ 48 ∷ 48 ∷ 48 ∷ 48 ∷ 48 ∷ 49 ∷ []) (7 ∷ []) ∷ packed_of (49 ∷ 48 ∷ 50 ∷ []) [] ∷ [] ≡ (Err Room) ∷ (Err Other) ∷ []
 unfolding binary packed_of
 rooms = refl
 

@@ -1,10 +1,9 @@
 -- Lines of characters as bit strings, their bytes in front of what is lent, and bits as characters again. Definitions alone.
-use Rattle.std.specs.Prelude.{◌≡◌, Bool, true, cond, ◌&&◌, List, [], ◌∷◌, ◌++◌, map, ℕ, eqb, leb, length, drop}
+use Rattle.std.specs.Prelude.{◌≡◌, Bool, true, cond, ◌&&◌, List, [], ◌∷◌, ◌++◌, map, ℕ, eqb, leb, length, drop, Some, None, Option, Ok, Err, Result}
 use Rattle.bits.specs.Bits.{bytes_for, bytes_of}
-use Rattle.bits.specs.declared.Taken.{Taken}
-use Rattle.bits.specs.declared.Taken.TheVariants.{Field, Short}
-use Rattle.packing.specs.declared.Packed.{Packed}
-use Rattle.packing.specs.declared.Packed.TheVariants.{Bits, Other, Room}
+use Rattle.bits.specs.declared.Cursor.{Cursor}
+use Rattle.packing.specs.declared.PackError.TheVariants.{Other, Room}
+use Rattle.packing.specs.declared.PackError.{PackError}
 
 -- "characters 0 and 1": 48 and 49
 abbrev pub is_bit : ℕ → Bool
@@ -29,14 +28,14 @@ roomy line before = leb (bytes_for (length line)) (length before)
 unfoldable pub bytes_over : List ℕ → List ℕ → List ℕ
 bytes_over line before = bytes_of (bits_in line) ++ drop (bytes_for (length line)) before
 
-unfoldable pub packed_of : List ℕ → List ℕ → Packed
-packed_of line before = cond (binary line) (cond (roomy line before) (Bits (length line)) Room) Other
+unfoldable pub packed_of : List ℕ → List ℕ → Result ℕ PackError
+packed_of line before = cond (binary line) (cond (roomy line before) (Ok (length line)) (Err Room)) (Err Other)
 
 unfoldable pub pack_into : List ℕ → List ℕ → List ℕ
 pack_into line before = cond (binary line) (cond (roomy line before) (bytes_over line before) before) before
 
 -- the promise of `pack`: what it answers, and what the lent bytes then hold
-pub record Pack (line before : List ℕ) (answered : Packed) (after : List ℕ) : Type 0 where
+pub record Pack (line before : List ℕ) (answered : Result ℕ PackError) (after : List ℕ) : Type 0 where
   pub answer : answered ≡ packed_of line before
   pub contents : after ≡ pack_into line before
 
@@ -50,6 +49,6 @@ abbrev pub characters : List ℕ → List ℕ
 characters bs = map character_of bs
 
 -- the character of a field of one bit; where there is none, 0
-abbrev pub character_in : Taken → ℕ
-character_in (Field b c) = character_of b
-character_in Short = 48
+abbrev pub character_in : Option (ℕ × Cursor) → ℕ
+character_in (Some (b, c)) = character_of b
+character_in None = 48

@@ -6,30 +6,29 @@ ghost use Rattle.bits.specs.Bits.{value_of, filled, bytes_for};
 ghost use Rattle.bits.specs.Take.{taken_at};
 ghost use Rattle.packing.specs.Packing.{is_bit, binary, bit_of, bits_in, bytes_over, Pack, character_in};
 
-use bits::{Cursor, Taken};
+use bits::Cursor;
 
-// What packing a line finds: the count of its bits, that it has another character, or that what is lent is too short.
-#[derive(Clone, Copy)]
-pub enum Packed {
-    Bits(usize),
+// Why nothing is packed: the text is not what was looked for, or what is lent is too short.
+#[derive(Clone, Copy, Debug, PartialEq, Eq)]
+pub enum PackError {
     Other,
     Room,
 }
 
 // Packs the characters 0 and 1 of a line into the front of out, the first into the highest bit of byte 0, fills the last byte
 // with 0, and answers how many there were. With another character, or no room in out, it writes nothing.
-pub fn pack(line: &[u8], out: &mut [u8]) -> Packed
+pub fn pack(line: &[u8], out: &mut [u8]) -> Result<usize, PackError>
     ensures { Pack line.now out.old result out.new }
 {
     if !binary(line) {
-        return Packed::Other;
+        return Err(PackError::Other);
     }
     let k = bits::bytes_for(line.len());
     if out.len() < k {
-        return Packed::Room;
+        return Err(PackError::Room);
     }
     fill(line, k, out);
-    Packed::Bits(line.len())
+    Ok(line.len())
 }
 
 // Whether every character is 0 or 1. The loop goes on behind another character, so that the compiler can take many at a time.
@@ -37,12 +36,10 @@ fn binary(line: &[u8]) -> bool
     ensures { result ≡ binary line.now }
 {
     let mut good = true;
-    let mut i = 0;
-    while i < line.len() {
-        if !is_bit(line[i]) {
+    for c in line {
+        if !is_bit(*c) {
             good = false;
         }
-        i += 1;
     }
     good
 }
@@ -51,13 +48,7 @@ fn binary(line: &[u8]) -> bool
 fn is_bit(c: u8) -> bool
     ensures { result ≡ is_bit c }
 {
-    if c < b'0' {
-        return false;
-    }
-    if b'1' < c {
-        return false;
-    }
-    true
+    matches!(c, b'0'..=b'1')
 }
 
 // Writes the k bytes of a line into the front of out.
@@ -65,10 +56,8 @@ fn fill(line: &[u8], k: usize, out: &mut [u8])
     requires { (k ≡ bytes_for (length line.now)) × (k ≤ length out.old) }
     ensures { out.new ≡ bytes_over line.now out.old }
 {
-    let mut i = 0;
-    while i < k {
+    for i in 0..k {
         out[i] = byte_at(line, 8 * i);
-        i += 1;
     }
 }
 
@@ -89,11 +78,9 @@ fn whole_at(line: &[u8], at: usize) -> u8
     ensures { result ≡ value_of (filled 8 (drop at (bits_in line.now))) }
 {
     let mut v: u64 = 0;
-    let mut j = 0;
-    while j < 8 {
+    for j in 0..8 {
         let bit = bit_of(line[at + j]);
         v = 2 * v + bit;
-        j += 1;
     }
     v as u8
 }
@@ -104,11 +91,9 @@ fn last_at(line: &[u8], at: usize) -> u8
     ensures { result ≡ value_of (filled 8 (drop at (bits_in line.now))) }
 {
     let mut v: u64 = 0;
-    let mut j = 0;
-    while j < 8 {
+    for j in 0..8 {
         let bit = bit_at(line, at, j);
         v = 2 * v + bit;
-        j += 1;
     }
     v as u8
 }
@@ -136,7 +121,7 @@ pub fn character(s: &[u8], n: usize, at: usize) -> u8
     ensures { result ≡ character_in (taken_at s.now n 1 at) }
 {
     let c = Cursor { at };
-    let Taken::Field(bit, _) = c.take(s, n, 1) else {
+    let Some((bit, _)) = c.take(s, n, 1) else {
         return b'0';
     };
     if bit == 1 { b'1' } else { b'0' }

@@ -87,18 +87,8 @@ fn store(out: &mut [u8], k: usize, w: u64)
     requires { k + 4 ≤ length out.old }
     ensures { bits_of out.new ≡ over (bits_of out.old) (8 * k) 32 w }
 {
-    out[k] = byte(w, 24);
-    out[k + 1] = byte(w, 16);
-    out[k + 2] = byte(w, 8);
-    out[k + 3] = byte(w, 0);
-}
-
-// The eight bits of w that stand low bits above its lowest.
-fn byte(w: u64, low: usize) -> u8
-    requires { low < 64 }
-    ensures { result ≡ w / 2 ^ low % 2 ^ 8 }
-{
-    low_bits(w >> low, 8) as u8
+    let bytes = (low_bits(w, 32) as u32).to_be_bytes();
+    out[k..k + 4].copy_from_slice(&bytes);
 }
 
 // The number w with x over its t bits that stand low bits above its lowest.

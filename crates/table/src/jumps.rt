@@ -7,23 +7,14 @@ ghost use Rattle.format.specs.Table.{leap_by, back_by};
 pub fn leap(a: u32, r: u32) -> usize
     ensures { result ≡ leap_by a r }
 {
-    if a == 3 {
-        return 2;
-    }
-    r as usize
+    if a == 3 { 2 } else { r as usize }
 }
 
 // The row that repeats the group which ends with row k, whose rest is r: so many rows back, counted from the next. At a packet's end the rest is 0, and so
-// is this.
+// is this: no Option, since `back_by`, of which `back_is` speaks, is 0 there.
 pub fn back(k: usize, r: u32) -> usize
     ensures { result ≡ back_by k r }
 {
     let d = r as usize;
-    if d == 0 {
-        return 0;
-    }
-    if k < d {
-        return 0;
-    }
-    k - d + 1
+    if d == 0 || k < d { 0 } else { k - d + 1 }
 }

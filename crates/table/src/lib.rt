@@ -238,33 +238,25 @@ pub fn rows() -> [u16; 213]
     ROWS
 }
 
-// The code of the field in a row whose act is a and whose rest is r. Below 10 the rest is the code of a field that is free, or a jump.
+// The code of the field in a row whose act is a and whose rest is r. Below 10 the rest is the code of a field that is free, or a jump. Acts and codes are
+// numbers and no enums, and an act and a rest no struct: a row packs them, and `code_by`, `leap_by` and `number_by` speak of them one by one.
 pub fn code(a: u32, r: u32) -> u32
     ensures { result ≡ code_by a r }
 {
-    if r < 10 {
-        return free(a, r);
+    match r {
+        0..10 => free(a, r),
+        10..32 | 48..52 => 10,
+        32..48 => 11,
+        _ => r - 52,
     }
-    if r < 32 {
-        return 10;
-    }
-    if r < 48 {
-        return 11;
-    }
-    if r < 52 {
-        return 10;
-    }
-    r - 52
 }
 
 fn free(a: u32, r: u32) -> u32
     ensures { result ≡ free_by a r }
 {
-    if a == 0 {
-        return 7;
+    match a {
+        0 => 7,
+        2 => r,
+        _ => 0,
     }
-    if a == 2 {
-        return r;
-    }
-    0
 }

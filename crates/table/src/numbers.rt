@@ -2,11 +2,12 @@
 ghost use Rattle.std.specs.Prelude.{◌≡◌};
 ghost use Rattle.format.specs.Table.{field_numbers, number_by};
 
-// The number of the end mark's field.
+// The number of the end mark's field: fields have numbers, as in `field_numbers` and `number_by`.
 const MARK: u8 = 71;
 
 // The field that each row of the table sends, by its number in specs/Fields.antt of `format`. At an end the number is NID_PACKET's, which is
 // due there between packets (the machine never stands at a group's end), and in place of the CTCS packet NID_XUSER's.
+// An array beside that of the rows: labelling alone goes by it, and whoever checks a telegram has the other on the stack.
 const FIELDS: [u8; 213] = [
     10, // 0: end
     0, // 1: Q_UPDOWN
@@ -234,10 +235,5 @@ pub fn fields() -> [u8; 213]
 pub fn named(a: u32, v: u64, f: u8) -> u8
     ensures { result ≡ number_by a v f }
 {
-    if a == 0 {
-        if v == 255 {
-            return MARK;
-        }
-    }
-    f
+    if a == 0 && v == 255 { MARK } else { f }
 }

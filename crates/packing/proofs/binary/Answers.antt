@@ -1,6 +1,5 @@
--- `packing::binary` meets its contract. The loop's invariant: the line is of 0 and 1 if the characters before are and what is left of it is. The
--- measure is how many characters are left. Assumes nothing.
-use mathlib.Core.Bool.{Bool, true, false, ◌&&◌}
+-- `packing::binary` meets its contract. The loop's invariant: the line is of 0 and 1 if the characters before are and what is left of it is. Assumes nothing.
+use mathlib.Core.Bool.{Bool, ◌&&◌, and-false, and-true}
 use mathlib.Core.List.{List}
 use mathlib.Core.Path.{◌≡◌, refl, sym, ap, ◌∙◌}
 use Prim.Native.Nat.{ℕ}
@@ -12,29 +11,21 @@ use Rattle.packing.proofs.Lines.{binary_more}
 use Rattle.packing.proofs.binary.Goals as goal
 use Rattle.packing.proofs.binary.Goals.{then-not-is_bit, else-not-is_bit}
 
-and_no : (b : Bool) → (b && false) ≡ false
-and_no true = refl
-and_no false = refl
+pub loop-c-init : goal.loop-c-init
+loop-c-init c = refl
 
-and_yes : (b : Bool) → (b && true) ≡ b
-and_yes true = refl
-and_yes false = refl
-
-pub loop-i-init : goal.loop-i-init
-loop-i-init c = (omega arith, refl)
-
-pub loop-i-preserved : goal.loop-i-preserved
-loop-i-preserved c =
-    let b = c.loop-i.good in
-    let told : c.if-not-is_bit.good ≡ (b && is_bit (get_or c.args.line.now c.loop-i.i 0)) =
+pub loop-c-preserved : goal.loop-c-preserved
+loop-c-preserved c =
+    let b = c.loop-c.good in
+    let told : c.if-not-is_bit.good ≡ (b && is_bit (get_or c.args.line.now c.loop-c.c-index 0)) =
     elim c.if-not-is_bit.branch [
-      | then-not-is_bit w ↦ w.good-is ∙ sym (ap (λ (x : Bool). b && x) (sym c.is_bit.ensures ∙ w.if-not-is_bit.true) ∙ and_no b)
-      | else-not-is_bit w ↦ w.good-is ∙ sym (ap (λ (x : Bool). b && x) (sym c.is_bit.ensures ∙ w.if-not-is_bit.false) ∙ and_yes b)
+      | then-not-is_bit w ↦ w.good-is ∙ sym (ap (λ (x : Bool). b && x) (sym c.is_bit.ensures ∙ w.if-not-is_bit.true) ∙ and-false b)
+      | else-not-is_bit w ↦ w.good-is ∙ sym (ap (λ (x : Bool). b && x) (sym c.is_bit.ensures ∙ w.if-not-is_bit.false) ∙ and-true b)
     ] in
-    (omega arith, c.loop-i.invariant.1 ∙ binary_more c.args.line.now c.loop-i.i (omega arith) c.loop-i.good c.if-not-is_bit.good told)
+    c.loop-c.invariant ∙ binary_more c.args.line.now c.loop-c.c-index (omega arith) c.loop-c.good c.if-not-is_bit.good told
 
 pub returns : goal.returns
 unfolding binary
 returns c =
-    let e : c.loop-i.i ≡ length c.args.line.now = omega arith in
-    sym (c.loop-i.invariant.1 ∙ ap (λ (l : List ℕ). c.loop-i.good && binary l) (ap (λ (n : ℕ). drop n c.args.line.now) e ∙ drop-length c.args.line.now) ∙ and_yes c.loop-i.good)
+    let e : c.loop-c.c-index ≡ length c.args.line.now = omega arith in
+    sym (c.loop-c.invariant ∙ ap (λ (l : List ℕ). c.loop-c.good && binary l) (ap (λ (n : ℕ). drop n c.args.line.now) e ∙ drop-length c.args.line.now) ∙ and-true c.loop-c.good)

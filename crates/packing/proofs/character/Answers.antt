@@ -10,9 +10,9 @@ returns-in_default c = sym (ap character_in (sym c.take.ensures ∙ c.in_default
 pub returns-then-bit-eq1 : goal.returns-then-bit-eq1
 returns-then-bit-eq1 c =
     character_one _ c.if-bit-eq1.true
-    ∙ sym (ap character_in (sym c.take.ensures ∙ c.in-Field.is))
+    ∙ sym (ap character_in (sym c.take.ensures ∙ c.in-Some.is))
 
 pub returns-else-bit-eq1 : goal.returns-else-bit-eq1
 returns-else-bit-eq1 c =
     character_zero _ c.if-bit-eq1.false
-    ∙ sym (ap character_in (sym c.take.ensures ∙ c.in-Field.is))
+    ∙ sym (ap character_in (sym c.take.ensures ∙ c.in-Some.is))

@@ -1,5 +1,4 @@
--- `packing::last_at` meets its contract. The loop's invariant: v is the number of the j bits that were read. The measure is how
--- many of the eight are left. Assumes nothing.
+-- `packing::last_at` meets its contract. The loop's invariant: v is the number of the j bits that were read. Assumes nothing.
 use mathlib.Core.Path.{◌≡◌, refl, ap, ◌∙◌}
 use Prim.Native.Nat.{ℕ, ◌+◌, ◌*◌}
 use native.Mathlib.Omega.{arith}
@@ -11,7 +10,7 @@ use Rattle.packing.proofs.last_at.Goals as goal
 
 pub loop-j-init : goal.loop-j-init
 unfolding value_of filled
-loop-j-init c = (omega arith, refl)
+loop-j-init c = refl
 
 pub overflow_mul-v : goal.overflow_mul-v
 overflow_mul-v c =
@@ -23,7 +22,7 @@ overflow_add-v c =
     let a = c.args in
     let l = c.loop-j in
     let e : 2 * l.v + c.bit_at-bit.result ≡ value_of (filled (l.j + 1) (drop a.at (bits_in a.line.now))) =
-    rw (l.invariant.1, c.bit_at-bit.ensures) (value_again (drop a.at (bits_in a.line.now)) l.j) in
+    rw (l.invariant, c.bit_at-bit.ensures) (value_again (drop a.at (bits_in a.line.now)) l.j) in
     omega (arith, value_small a.line.now a.at (l.j + 1) (omega arith))
 
 pub loop-j-preserved : goal.loop-j-preserved
@@ -31,8 +30,8 @@ loop-j-preserved c =
     let a = c.args in
     let l = c.loop-j in
     let e : 2 * l.v + c.bit_at-bit.result ≡ value_of (filled (l.j + 1) (drop a.at (bits_in a.line.now))) =
-    rw (l.invariant.1, c.bit_at-bit.ensures) (value_again (drop a.at (bits_in a.line.now)) l.j) in
-    (omega arith, e)
+    rw (l.invariant, c.bit_at-bit.ensures) (value_again (drop a.at (bits_in a.line.now)) l.j) in
+    e
 
 pub overflow_cast-result : goal.overflow_cast-result
 overflow_cast-result c =
@@ -43,4 +42,4 @@ pub returns : goal.returns
 returns c =
     let a = c.args in
     let e : c.loop-j.j ≡ 8 = omega arith in
-    c.loop-j.invariant.1 ∙ ap (λ (n : ℕ). value_of (filled n (drop a.at (bits_in a.line.now)))) e
+    c.loop-j.invariant ∙ ap (λ (n : ℕ). value_of (filled n (drop a.at (bits_in a.line.now)))) e

@@ -1,14 +1,9 @@
--- `packing::last_at` meets its contract. The loop's invariant: v is the number of the j bits that were read. The measure is how
--- many of the eight are left. Assumes nothing.
+-- `packing::last_at` meets its contract. The loop's invariant: v is the number of the j bits that were read. Assumes nothing.
 use mathlib.Core.Path.{◌≡◌}
-use Prim.Native.Nat.{◌≤◌, ◌-◌}
 use lib.ListN.{drop}
 use Rattle.bits.specs.Bits.{value_of, filled}
 use Rattle.packing.specs.Packing.{bits_in}
 use Rattle.packing.proofs.last_at.Given as goal
 
 abbrev pub invariant-loop-j : goal.invariant-loop-j
-invariant-loop-j l = (l.j ≤ 8) × (l.v ≡ value_of (filled l.j (drop l.at (bits_in l.line))))
-
-abbrev pub decreases-loop-j : goal.decreases-loop-j
-decreases-loop-j l = 8 - l.j
+invariant-loop-j l = l.v ≡ value_of (filled l.j (drop l.at (bits_in l.line)))

@@ -3,7 +3,6 @@ use mathlib.Core.Path.{refl}
 use Rattle.format.specs.Table.{words}
 use Rattle.table.proofs.rows.Goals as goal
 
--- src/lib.rt:223:1
 pub returns : goal.returns
 unfolding words
 returns c = refl
