@@ -1,10 +1,9 @@
 -- Answers as text: values, bits, and that a line is no question. Definitions alone.
-use Rattle.std.specs.Prelude.{List, [], ◌∷◌, ◌++◌, ℕ, length, take}
-use Rattle.format.specs.declared.Answer.{Answer}
-use Rattle.format.specs.declared.Answer.TheVariants.{Accepted, Refused}
+use Rattle.std.specs.Prelude.{List, [], ◌∷◌, ◌++◌, ℕ, length, take, Ok, Err}
 use Rattle.packing.specs.Packing.{characters}
 use Rattle.pieces.specs.Numbers.{decimal}
 use Rattle.queue_text.specs.Texts.{space, newline, ok_word, refusal_text}
+use Rattle.format.specs.Refusals.{Answer}
 
 -- `not a question`
 abbrev pub no_question : List ℕ
@@ -25,5 +24,5 @@ sent bs = ok_word ++ characters bs ++ newline
 
 -- of the bits in hand, by the answer: as many as it says
 unfoldable pub sent_text : List ℕ → Answer → List ℕ
-sent_text bs (Accepted n) = sent (take n bs)
-sent_text bs (Refused r) = refusal_text r
+sent_text bs (Ok n) = sent (take n bs)
+sent_text bs (Err r) = refusal_text r

@@ -5,7 +5,7 @@ ghost use Rattle.bits.specs.Bits.{bits_of};
 ghost use Rattle.queue.specs.Waiting.{Joins};
 ghost use Rattle.answer_text.specs.Texts.{no_question, spaced, listed, sent_text};
 
-use format::Answer;
+use format::Refusal;
 use queue::Queue;
 
 // Puts the answer to a line that is no question.
@@ -30,25 +30,23 @@ fn numbers(run: &[u64], out: &mut [u8], q: Queue) -> Queue
     ensures { Joins (spaced run.now) q out.old result out.new }
 {
     let mut r = q;
-    let mut i = 0;
-    while i < run.len() {
+    for v in run {
         let s = queue::put(out, r, b' ');
-        r = queue_text::number(out, s, run[i]);
-        i += 1;
+        r = queue_text::number(out, s, *v);
     }
     r
 }
 
 // Puts the bits of a telegram that was written or normalised into the bytes t, as many as the answer says, or its refusal.
-pub fn sent(t: &[u8], answer: Answer, out: &mut [u8], q: Queue) -> Queue
+pub fn sent(t: &[u8], answer: Result<usize, Refusal>, out: &mut [u8], q: Queue) -> Queue
     ensures { Joins (sent_text (bits_of t.now) answer) q out.old result out.new }
 {
     match answer {
-        Answer::Accepted(n) => {
+        Ok(n) => {
             let a = queue::say(out, q, b"ok ");
             let b = queue_text::characters(out, a, t, n);
             queue::put(out, b, b'\n')
         }
-        Answer::Refused(r) => queue_text::refused(out, q, r),
+        Err(r) => queue_text::refused(out, q, r),
     }
 }

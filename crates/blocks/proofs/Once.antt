@@ -1,4 +1,5 @@
 -- The promise of `start` is met by one answer alone. That of `next` is met by one outcome alone where the outside brings the same. Assumes nothing.
+use Rattle.std.specs.Prelude.{Result}
 use mathlib.Core.Path.{◌≡◌, refl, sym, ap, ap₂, ◌∙◌}
 use mathlib.Core.Bool.{Bool, true, false}
 use mathlib.Core.List.{List}
@@ -9,7 +10,7 @@ use lib.Dec.{ltb}
 use Rattle.blocks.specs.contracts as promises
 use Rattle.bits.proofs.Once.{OneOutcome, OneOutcomeGiven}
 use Rattle.blocks.specs.Reading.{Steps, arrived_at, arrived_line}
-use Rattle.blocks.specs.declared.Filled.{Filled}
+use Rattle.blocks.specs.declared.ReadFailed.{ReadFailed}
 use Rattle.blocks.specs.declared.Input.{Input}
 use Rattle.blocks.proofs.start
 use Rattle.blocks.proofs.next
@@ -19,7 +20,7 @@ start_once κs args r t u v p q = (p ∙ sym q, refl)
 
 -- what the outside brings where a block is read: what the block then holds, and how many bytes came, or that none could be read
 abbrev Brought : Input → Type 0
-Brought i = i.ended ≡ false → i.to ≤ i.from → List ℕ × Filled
+Brought i = i.ended ≡ false → i.to ≤ i.from → List ℕ × Result ℕ ReadFailed
 
 abbrev brought : {block line : List ℕ} {i r : Input} {block' line' : List ℕ} → Steps block line i r block' line' → Brought i
 brought {block' = after} h = λ e f. (after, (h.reads e f).got)
@@ -42,9 +43,9 @@ module _ {block line : List ℕ} {i r t : Input} {b c l m : List ℕ} (h : Steps
           let n = (g.reads x few).arrives in
           let same : b ≡ c = ap (λ (w : Brought i). (w x few).0) e in
           let got : (h.reads x few).got ≡ (g.reads x few).got = ap (λ (w : Brought i). (w x few).1) e in (
-            k.stands ∙ ap₂ (λ (d : List ℕ) (z : Filled). arrived_at d line i z) same got ∙ sym n.stands,
+            k.stands ∙ ap₂ (λ (d : List ℕ) (z : Result ℕ ReadFailed). arrived_at d line i z) same got ∙ sym n.stands,
             same,
-            k.text ∙ ap₂ (λ (d : List ℕ) (z : Filled). arrived_line d line i z) same got ∙ sym n.text,
+            k.text ∙ ap₂ (λ (d : List ℕ) (z : Result ℕ ReadFailed). arrived_line d line i z) same got ∙ sym n.text,
           )
 
 pub next_once : OneOutcomeGiven promises.next.ended next.Reads.Post (λ κs args r s p. brought p)

@@ -1,4 +1,5 @@
 -- Steps from line to line, in the shapes of the functions that take them; and that what is kept lies within the line. Assumes nothing.
+use Rattle.std.specs.Prelude.{Ok, Err, Result}
 use mathlib.Core.Path.{◌≡◌, refl, sym, ap, ◌∙◌}
 use mathlib.Core.Bool.{Bool, true, false, cond}
 use mathlib.Core.List.{List, [], ◌++◌}
@@ -11,8 +12,7 @@ use lib.ListN.{length, take, drop, length-take, length-drop, length-append, drop
 use lib.Seq.{length-take-le}
 use Rattle.blocks.specs.Ends.{up_to_end, ends}
 use Rattle.blocks.specs.Reading.{left, held, fitting, over, in_hand, stop, taken_on, TakesOn, stopped, fresh, arrived_at, arrived_line, Arrives, Arrival, Steps, Held, Keeps}
-use Rattle.blocks.specs.declared.Filled.{Filled}
-use Rattle.blocks.specs.declared.Filled.TheVariants.{Bytes, Failed}
+use Rattle.blocks.specs.declared.ReadFailed.{ReadFailed}
 use Rattle.blocks.specs.declared.Input.{Input}
 use Rattle.blocks.proofs.Parts.{take_least}
 
@@ -106,24 +106,24 @@ module _ (block line : List ℕ) (i : Input) (to from e h kept : ℕ) (line' : L
 
 module _ (block line : List ℕ) (i : Input) (n : ℕ) where
   module _ (z : n ≡ 0) where
-    none_at : arrived_at block line i (Bytes n) ≡ stopped (length (held line i)) false
+    none_at : arrived_at block line i (Ok n) ≡ stopped (length (held line i)) false
     none_at = rw (eq-eqb n 0 z)
 
-    none_line : arrived_line block line i (Bytes n) ≡ line
+    none_line : arrived_line block line i (Ok n) ≡ line
     none_line = rw (eq-eqb n 0 z)
 
   module _ (some : n ≡ 0 → ⊥) where
-    some_at : arrived_at block line i (Bytes n) ≡ taken_on block line (fresh n i)
+    some_at : arrived_at block line i (Ok n) ≡ taken_on block line (fresh n i)
     some_at = rw (ne_eqb n 0 some)
 
-    some_line : arrived_line block line i (Bytes n) ≡ over (in_hand block line (fresh n i)) line
+    some_line : arrived_line block line i (Ok n) ≡ over (in_hand block line (fresh n i)) line
     some_line = rw (ne_eqb n 0 some)
 
-module _ (block line : List ℕ) (i : Input) (got : Filled) where
-  pub arrives_failed : (r : Input) → got ≡ Failed → r ≡ stopped 0 true → Arrives block line i got r line
-  arrives_failed r e f = rw e (record { stands = f; text = refl })
+module _ (block line : List ℕ) (i : Input) (got : Result ℕ ReadFailed) where
+  pub arrives_failed : (why : ReadFailed) (r : Input) → got ≡ Err why → r ≡ stopped 0 true → Arrives block line i got r line
+  arrives_failed why r e f = rw e (record { stands = f; text = refl })
 
-  module _ (n : ℕ) (e : got ≡ Bytes n) where
+  module _ (n : ℕ) (e : got ≡ Ok n) where
     pub arrives_none : (r : Input) (h : ℕ) → n ≡ 0 → Held line i h → r ≡ stopped h false → Arrives block line i got r line
     arrives_none r h z g f =
         rw e (record {
@@ -180,9 +180,9 @@ takes_fit {block} {line} {line'} {i} {r} h =
     ∙ length-append (fitting (in_hand block line i) line) (drop (length (fitting (in_hand block line i) line)) line) in
     omega (arith, n, l)
 
-arrives_fit : (block line line' : List ℕ) (i r : Input) (got : Filled) → Arrives block line i got r line' → r.kept ≤ length line'
-arrives_fit block line line' i r Failed h = let n : r.kept ≡ 0 = ap (λ (x : Input). x.kept) h.stands in omega (arith, n)
-arrives_fit block line line' i r (Bytes n) h = by (dec_le n 0)
+arrives_fit : (block line line' : List ℕ) (i r : Input) (got : Result ℕ ReadFailed) → Arrives block line i got r line' → r.kept ≤ length line'
+arrives_fit block line line' i r (Err _) h = let n : r.kept ≡ 0 = ap (λ (x : Input). x.kept) h.stands in omega (arith, n)
+arrives_fit block line line' i r (Ok n) h = by (dec_le n 0)
   where
     by : Dec (n ≤ 0) → r.kept ≤ length line'
     by (yes z) =

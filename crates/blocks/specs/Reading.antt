@@ -1,14 +1,13 @@
 -- Where the reading of lines stands, and one step of it. Definitions alone.
-use Rattle.std.specs.Prelude.{◌≡◌, Bool, true, false, cond, List, [], ◌++◌, ℕ, ◌+◌, ◌≤◌, ◌<◌, min, eqb, ltb, length, take, drop}
+use Rattle.std.specs.Prelude.{◌≡◌, Bool, true, false, cond, List, [], ◌++◌, ℕ, ◌+◌, ◌≤◌, ◌<◌, min, eqb, ltb, length, take, drop, Ok, Err, Result}
 use Rattle.blocks.specs.Ends.{up_to_end, ends}
-use Rattle.blocks.specs.declared.Filled.{Filled}
-use Rattle.blocks.specs.declared.Filled.TheVariants.{Bytes, Failed}
+use Rattle.blocks.specs.declared.ReadFailed.{ReadFailed}
 use Rattle.blocks.specs.declared.Input.{Input}
 
 -- no more bytes were read into a buffer than it has
-abbrev pub Within : List ℕ → Filled → Type 0
-Within buffer (Bytes n) = n ≤ length buffer
-Within buffer Failed = Unit
+abbrev pub Within : List ℕ → Result ℕ ReadFailed → Type 0
+Within buffer (Ok n) = n ≤ length buffer
+Within buffer (Err _) = Unit
 
 -- nothing is read yet
 abbrev pub nothing : Input
@@ -67,23 +66,23 @@ abbrev pub fresh : ℕ → Input → Input
 fresh n i = record { from = 0; to = n; kept = i.kept; whole = i.whole; ended = false; failed = false }
 
 -- where reading then stands, by what a read brought: a line whose rest cannot be read gets no answer
-abbrev pub arrived_at : List ℕ → List ℕ → Input → Filled → Input
-arrived_at block line i Failed = stopped 0 true
-arrived_at block line i (Bytes n) = cond (eqb n 0) (stopped (length (held line i)) false) (taken_on block line (fresh n i))
+abbrev pub arrived_at : List ℕ → List ℕ → Input → Result ℕ ReadFailed → Input
+arrived_at block line i (Err _) = stopped 0 true
+arrived_at block line i (Ok n) = cond (eqb n 0) (stopped (length (held line i)) false) (taken_on block line (fresh n i))
 
 -- what the line then holds
-abbrev pub arrived_line : List ℕ → List ℕ → Input → Filled → List ℕ
-arrived_line block line i Failed = line
-arrived_line block line i (Bytes n) = cond (eqb n 0) line (over (in_hand block line (fresh n i)) line)
+abbrev pub arrived_line : List ℕ → List ℕ → Input → Result ℕ ReadFailed → List ℕ
+arrived_line block line i (Err _) = line
+arrived_line block line i (Ok n) = cond (eqb n 0) line (over (in_hand block line (fresh n i)) line)
 
 -- the promise of `arrived`
-pub record Arrives (block line : List ℕ) (i : Input) (got : Filled) (r : Input) (line' : List ℕ) : Type 0 where
+pub record Arrives (block line : List ℕ) (i : Input) (got : Result ℕ ReadFailed) (r : Input) (line' : List ℕ) : Type 0 where
   pub stands : r ≡ arrived_at block line i got
   pub text : line' ≡ arrived_line block line i got
 
 -- something was read into the block, or nothing, which hangs on the outside, and is taken on
 pub record Arrival (block line : List ℕ) (i r : Input) (line' : List ℕ) : Type 0 where
-  pub got : Filled
+  pub got : Result ℕ ReadFailed
   pub within : Within block got
   pub arrives : Arrives block line i got r line'
 

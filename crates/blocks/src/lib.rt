@@ -11,17 +11,14 @@ use crate::reads::read;
 use std::io::Stdin;
 use word64::lower;
 
-// How many bytes were read, or that a read failed.
-#[derive(Clone, Copy)]
-pub enum Filled {
-    Bytes(usize),
-    Failed,
-}
+// A read failed. How it did changes no answer, so that this says no more.
+#[derive(Clone, Copy, Debug, PartialEq, Eq)]
+pub struct ReadFailed;
 
 // Where reading stands: from where to where the block is still to be taken on, how many characters of the line in hand are kept, whether
 // that line is whole, and whether the input ended, of itself or because it could not be read. The next step behind a whole
-// line begins another.
-#[derive(Clone, Copy)]
+// line begins another. Flags and no enum of states: `arrived_at`, `goes_on` and the programs' `reply` read each by itself.
+#[derive(Clone, Copy, Default)]
 pub struct Input {
     pub from: usize,
     pub to: usize,
@@ -35,14 +32,7 @@ pub struct Input {
 pub fn start() -> Input
     ensures { result ≡ nothing }
 {
-    Input {
-        from: 0,
-        to: 0,
-        kept: 0,
-        whole: false,
-        ended: false,
-        failed: false,
-    }
+    Input::default()
 }
 
 // One step on: takes on the rest of the block up to the next newline, or reads a block where nothing is left of the one before. A last
@@ -61,10 +51,10 @@ pub fn next(stdin: Stdin, block: &mut [u8], line: &mut [u8], input: Input) -> In
 }
 
 // What a read brought, taken on up to its first newline.
-fn arrived(block: &[u8], line: &mut [u8], input: Input, got: Filled) -> Input
+fn arrived(block: &[u8], line: &mut [u8], input: Input, got: Result<usize, ReadFailed>) -> Input
     ensures { Arrives block.now line.old input got result line.new }
 {
-    let Filled::Bytes(n) = got else {
+    let Ok(n) = got else {
         return stopped(0, true);
     };
     if n == 0 {
@@ -76,10 +66,9 @@ fn arrived(block: &[u8], line: &mut [u8], input: Input, got: Filled) -> Input
         Input {
             from: 0,
             to: n,
-            kept: input.kept,
-            whole: input.whole,
             ended: false,
             failed: false,
+            ..input
         },
     )
 }
@@ -89,12 +78,11 @@ fn stopped(kept: usize, failed: bool) -> Input
     ensures { result ≡ stopped kept failed }
 {
     Input {
-        from: 0,
-        to: 0,
         kept,
         whole: 0 < kept,
         ended: true,
         failed,
+        ..Input::default()
     }
 }
 
@@ -114,8 +102,7 @@ fn take_on(block: &[u8], line: &mut [u8], input: Input) -> Input
             to,
             kept,
             whole: true,
-            ended: input.ended,
-            failed: input.failed,
+            ..input
         };
     }
     Input {
@@ -123,8 +110,7 @@ fn take_on(block: &[u8], line: &mut [u8], input: Input) -> Input
         to,
         kept,
         whole: false,
-        ended: input.ended,
-        failed: input.failed,
+        ..input
     }
 }
 

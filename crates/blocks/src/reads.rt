@@ -1,16 +1,13 @@
 // Reading standard input.
 ghost use Rattle.blocks.specs.Reading.{Within};
 
-use crate::Filled;
+use crate::ReadFailed;
 use std::io::{Read, Stdin};
 
-// Reads once into the front of the buffer.
-pub(crate) fn read(stdin: Stdin, buffer: &mut [u8]) -> Filled
+// Reads once into the front of the buffer, and gives how many bytes.
+pub(crate) fn read(stdin: Stdin, buffer: &mut [u8]) -> Result<usize, ReadFailed>
     ensures { Within buffer.new result }
 {
     let mut input = stdin;
-    match input.read(buffer) {
-        Ok(n) => Filled::Bytes(n),
-        Err(_) => Filled::Failed,
-    }
+    input.read(buffer).map_err(|_| ReadFailed)
 }

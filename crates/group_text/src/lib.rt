@@ -23,10 +23,9 @@ fn each(count: usize, pigs: &[u8], numbers: &[u8], out: &mut [u8], q: Queue) -> 
 {
     let n = lower(count, lower(pigs.len(), numbers.len()));
     let mut r = q;
-    let mut i = 0;
-    while i < n {
+    // By index: over zip the invariant speaks of pairs of references so far, and is no plainer.
+    for i in 0..n {
         r = packet(pigs[i], numbers[i], out, r);
-        i += 1;
     }
     r
 }

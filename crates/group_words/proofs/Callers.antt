@@ -1,4 +1,5 @@
 -- What a caller of `collect` learns from each answer, and that 2,048 bytes and 16 numbers are room for every group. Assumes nothing.
+use Rattle.std.specs.Prelude.{Ok, Err, Result, ℕ}
 use mathlib.Core.Path.{◌≡◌, refl, sym, ◌∙◌}
 use mathlib.Core.Bool.{Bool, true, false, cond}
 use mathlib.Core.List.{List, [], ◌∷◌}
@@ -10,11 +11,11 @@ use lib.ListN.{length, take, drop, length-append, length-map}
 use lib.Seq.{take_at}
 use Rattle.words.specs.Words.{words_in}
 use Rattle.telegram_word.specs.Telegrams.{Telegram}
-use Rattle.telegram_word.proofs.Answers.{bytes_few}
+use Rattle.telegram_word.proofs.Answers.{bytes_few, ok_parts}
 use Rattle.group_words.specs.Lines.{most, telegrams_in, line_group, buffer_of, counts_of, bytes_over, counts_over, roomy, collected_of, bytes_then, counts_then, Collects}
-use Rattle.group_words.specs.declared.Collected.{Collected}
-use Rattle.group_words.specs.declared.Collected.TheVariants.{Group, Not, Room}
 use Rattle.group_words.proofs.Walks.{next}
+use Rattle.packing.specs.declared.PackError.TheVariants.{Other, Room}
+use Rattle.packing.specs.declared.PackError.{PackError}
 
 -- ---- room
 
@@ -48,11 +49,10 @@ pub record Gathered (line after counts : List ℕ) (count total : ℕ) : Type 0 
   pub ns : take count counts ≡ counts_of telegrams
 
 module _ (line before list : List ℕ) where
-  gathered : (ts : List Telegram) (b : Bool) (count total : ℕ) → line_group line ≡ some ts → cond b (Group (length ts) (length (buffer_of ts))) Room ≡ Group count total
+  gathered : (ts : List Telegram) (b : Bool) (count total : ℕ) → line_group line ≡ some ts → cond {A = Result (ℕ × ℕ) PackError} b (Ok (length ts, length (buffer_of ts))) (Err Room) ≡ Ok (count, total)
       → Gathered line (cond b (bytes_over ts before) before) (cond b (counts_over ts list) list) count total
   gathered ts true count total g e =
-      let c : length ts ≡ count = cc in
-      let t : length (buffer_of ts) ≡ total = cc in
+      let (c, t) = ok_parts (length ts) count (length (buffer_of ts)) total e in
       let m = length-map ts (λ (u : Telegram). u.n) in
       rw (← c, ← t)
       (record {
@@ -65,38 +65,43 @@ module _ (line before list : List ℕ) where
       })
   gathered ts false count total g e = let z : ◌≡◌ {A = ℕ} 0 1 = cc in absurd (omega arith)
 
-  module _ (answered : Collected) (after counts : List ℕ) (h : Collects line before list answered after counts) where
-    pub collects_gathered : (count total : ℕ) → answered ≡ Group count total → Gathered line after counts count total
+  module _ (answered : Result (ℕ × ℕ) PackError) (after counts : List ℕ) (h : Collects line before list answered after counts) where
+    pub collects_gathered : (count total : ℕ) → answered ≡ Ok (count, total) → Gathered line after counts count total
     collects_gathered count total e =
         rw (h.bytes_held, h.counts_held) (by (line_group line) refl (sym h.answer ∙ e))
       where
-        by : (o : Option (List Telegram)) → line_group line ≡ o → collected_of o before list ≡ Group count total
+        by : (o : Option (List Telegram)) → line_group line ≡ o → collected_of o before list ≡ Ok (count, total)
             → Gathered line (bytes_then o before list) (counts_then o before list) count total
         by none g x = let z : ◌≡◌ {A = ℕ} 0 1 = cc in absurd (omega arith)
         by (some ts) g x = gathered ts (roomy ts before list) count total g x
 
-    pub collects_no_group : answered ≡ Not → line_group line ≡ none
+    pub collects_no_group : answered ≡ Err Other → line_group line ≡ none
     collects_no_group e = by (line_group line) (sym h.answer ∙ e)
       where
-        by : (o : Option (List Telegram)) → collected_of o before list ≡ Not → o ≡ none
+        by : (o : Option (List Telegram)) → collected_of o before list ≡ Err Other → o ≡ none
         by none x = refl
         by (some ts) x = of_room (roomy ts before list) x
           where
-            of_room : (b : Bool) → cond b (Group (length ts) (length (buffer_of ts))) Room ≡ Not → some ts ≡ none
+            of_room : (b : Bool) → cond {A = Result (ℕ × ℕ) PackError} b (Ok (length ts, length (buffer_of ts))) (Err Room) ≡ Err Other → some ts ≡ none
             of_room true x = let z : ◌≡◌ {A = ℕ} 0 1 = cc in absurd (omega arith)
             of_room false x = let z : ◌≡◌ {A = ℕ} 0 1 = cc in absurd (omega arith)
 
     -- "lends enough"
-    pub never_roomless : 2048 ≤ length before → 16 ≤ length list → answered ≡ Room → ⊥
+    pub never_roomless : 2048 ≤ length before → 16 ≤ length list → answered ≡ Err Room → ⊥
     never_roomless l m e = by (line_group line) refl (sym h.answer ∙ e)
       where
-        by : (o : Option (List Telegram)) → line_group line ≡ o → collected_of o before list ≡ Room → ⊥
+        by : (o : Option (List Telegram)) → line_group line ≡ o → collected_of o before list ≡ Err Room → ⊥
         by none g x = let z : ◌≡◌ {A = ℕ} 0 1 = cc in omega arith
         by (some ts) g x =
             let w = group_limits line ts g in
             let many : length ts ≤ length list = omega (arith, w.0, m) in
             let long : length (buffer_of ts) ≤ length before = omega (arith, w.1, l) in
-            let is : collected_of (some ts) before list ≡ Group (length ts) (length (buffer_of ts)) =
+            let is : collected_of (some ts) before list ≡ Ok (length ts, length (buffer_of ts)) =
             rw (le-leb (length (buffer_of ts)) (length before) long, le-leb (length ts) (length list) many) in
             let z : ◌≡◌ {A = ℕ} 0 1 = cc in
             omega arith
+
+    -- lent enough, what is not collected is no group, for either reason
+    pub collects_none : 2048 ≤ length before → 16 ≤ length list → (e : PackError) → answered ≡ Err e → line_group line ≡ none
+    collects_none l m Other e = collects_no_group e
+    collects_none l m Room e = absurd (never_roomless l m e)

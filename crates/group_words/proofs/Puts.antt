@@ -1,4 +1,5 @@
 -- The telegrams of a line, put one behind the other: what the loop of `lay` goes by, and what `collect` answers. Assumes nothing.
+use Rattle.std.specs.Prelude.{Ok, Result, ℕ}
 use mathlib.Core.Path.{◌≡◌, refl, sym, ap, ap₂, ◌∙◌}
 use mathlib.Core.List.{List, [], ◌∷◌, ◌++◌, map-append, append-nil, append_assoc}
 use mathlib.Core.Option.{some}
@@ -10,11 +11,10 @@ use lib.ListN.{length, take, drop, get_or, set, length-append, length-drop, leng
 use lib.Seq.{length-take-le, take_all, take_at, drop_at, drop-drop, drop-cons, set_at, append_snoc}
 use Rattle.words.specs.Words.{word_end, words_in}
 use Rattle.telegram_word.specs.Telegrams.{Telegram, telegram, telegram_in, lent_of, Lends}
-use Rattle.telegram_word.specs.declared.Lent.{Lent}
-use Rattle.telegram_word.specs.declared.Lent.TheVariants.{Bytes}
 use Rattle.telegram_word.proofs.Answers.{Told, lent_bytes}
 use Rattle.group_words.specs.Lines.{most, those, telegrams_in, buffer_of, counts_of, bytes_over, counts_over}
 use Rattle.group_words.proofs.Walks.{words_from, words_all, words_none, end_inside, words_next, Next, next}
+use Rattle.packing.specs.declared.PackError.{PackError}
 
 -- ---- one telegram more
 
@@ -148,10 +148,10 @@ module _ {line before counts : List ℕ} {at used i : ℕ} {bytes ns : List ℕ}
         let g = f.holds in
         omega (arith, g, all_count, laying_counts, ap length here.splits)
 
-    module _ (answered : Lent) (after : List ℕ)
+    module _ (answered : Result (ℕ × ℕ) PackError) (after : List ℕ)
         (p : Lends (telegram_in (take (end - at) (drop at line))) (take (length bytes - used) (drop used bytes)) answered after) where
       -- the word is a telegram, and there is room for it
-      pub laying_lent : answered ≡ Bytes (length here.telegram.bytes) here.telegram.n
+      pub laying_lent : answered ≡ Ok (length here.telegram.bytes, here.telegram.n)
       laying_lent =
           let g = f.fits in
           let room : length here.telegram.bytes ≤ length (drop used before) = omega (arith, g, all_bytes, left_bytes, length-drop used before) in
@@ -159,7 +159,7 @@ module _ {line before counts : List ℕ} {at used i : ℕ} {bytes ns : List ℕ}
           ∙ ap₂ lent_of here.is behind
           ∙ rw (le-leb (length here.telegram.bytes) (length (drop used before)) room)
 
-      module _ (k n : ℕ) (x : answered ≡ Bytes k n) where
+      module _ (k n : ℕ) (x : answered ≡ Ok (k, n)) where
         told : Told (telegram_in (take (end - at) (drop at line))) (take (length bytes - used) (drop used bytes)) after k n
         told = lent_bytes (take (length bytes - used) (drop used bytes)) (telegram_in (take (end - at) (drop at line))) answered after p k n x
 

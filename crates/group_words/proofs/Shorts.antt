@@ -1,4 +1,5 @@
 -- A line that is a group is no longer than 16 words of 1,024 characters and a space each: a longer one is none, whatever it holds. Assumes nothing.
+use Rattle.std.specs.Prelude.{Some, None, ℕ}
 use mathlib.Core.Path.{◌≡◌, refl, ap, ◌∙◌}
 use mathlib.Core.Bool.{Bool, true, false, cond, ◌&&◌}
 use mathlib.Core.List.{List, [], ◌∷◌}
@@ -13,8 +14,6 @@ use Rattle.bits.specs.Bits.{bytes_of}
 use Rattle.packing.specs.Packing.{binary, bits_in}
 use Rattle.pieces.proofs.Decimals.{length_decimal}
 use Rattle.words.specs.Words.{up_to, words_in, line_of, number_in}
-use Rattle.words.specs.declared.Figure.{Figure}
-use Rattle.words.specs.declared.Figure.TheVariants as figure
 use Rattle.words.proofs.Marks.{up_within}
 use Rattle.words.proofs.Splits.{line_words}
 use Rattle.words.proofs.Written.{number_is}
@@ -22,6 +21,7 @@ use Rattle.telegram_word.specs.Telegrams.{Telegram, telegram, bits_form, in_pair
 use Rattle.telegram_word.proofs.Hexes.{pairs_told}
 use Rattle.group_words.specs.Lines.{most, telegrams_in, line_group}
 use Rattle.group_words.proofs.Walks.{next}
+use Rattle.std.specs.Prelude as code
 
 module _ (word : List ℕ) (t : Telegram) where
   bits_by : (p q r : Bool) → leb (length word) 1024 ≡ q
@@ -34,15 +34,15 @@ module _ (word : List ℕ) (t : Telegram) where
   unfolding bits_form
   bits_few = bits_by (leb 1 (length word)) (leb (length word) 1024) (binary word) refl
 
-  hex_by : (p : Bool) (f : Figure) → in_pairs (take (up_to 58 word) word) ≡ p → number_in (drop (suc (up_to 58 word)) word) ≡ f
+  hex_by : (p : Bool) (f : code.Option ℕ) → in_pairs (take (up_to 58 word) word) ≡ p → number_in (drop (suc (up_to 58 word)) word) ≡ f
       → cond p (counted (bytes_in (take (up_to 58 word) word)) f) none ≡ some t → length word ≤ 1024
-  hex_by true (figure.Is n) x y e =
+  hex_by true (Some n) x y e =
       let m = (pairs_told (take (up_to 58 word) word) x).0 in
       let u = up_within 58 word in
       let l = length-take-le (up_to 58 word) word u in
       let d = ap length (number_is (drop (suc (up_to 58 word)) word) n y).0 in
       omega (arith, m, u, l, d, length-drop (suc (up_to 58 word)) word, length_decimal 20 n)
-  hex_by true figure.Not x y e = let z : ◌≡◌ {A = ℕ} 0 1 = cc in absurd (omega arith)
+  hex_by true None x y e = let z : ◌≡◌ {A = ℕ} 0 1 = cc in absurd (omega arith)
   hex_by false f x y e = let z : ◌≡◌ {A = ℕ} 0 1 = cc in absurd (omega arith)
 
   hex_few : hex_form word ≡ some t → length word ≤ 1024

@@ -1,5 +1,5 @@
 -- Worked examples of the definitions, each computed by the checker. Assumes nothing.
-use Rattle.std.specs.Prelude.{◌≡◌, refl, List, [], ◌∷◌, ◌++◌, map, ℕ, replicate}
+use Rattle.std.specs.Prelude.{◌≡◌, refl, List, [], ◌∷◌, ◌++◌, map, ℕ, replicate, Ok, Err}
 use Rattle.std.proofs.Math.Option.{Option, some, none}
 use Prim.Native.Char.{code}
 use Prim.Native.String.{String}
@@ -9,8 +9,8 @@ use Rattle.pieces.specs.Numbers.{decimal_in, digits_from}
 use Rattle.words.specs.Words.{up_to, words_in, line_of, number_in}
 use Rattle.telegram_word.specs.Telegrams.{Telegram, telegram, hex_of, hexed, in_pairs, bytes_in, bits_form, hex_form, telegram_in}
 use Rattle.group_words.specs.Lines.{telegrams_in, line_group, buffer_of, collected_of, bytes_then, counts_then}
-use Rattle.group_words.specs.declared.Collected.TheVariants.{Group, Not, Room}
 use Prim.Native.String as string
+use Rattle.packing.specs.declared.PackError.TheVariants.{Other, Room}
 
 abbrev text_of : String → List ℕ
 text_of string.[] = []
@@ -42,7 +42,7 @@ abbrev two : Option (List Telegram)
 two = some (telegram (1 ∷ 2 ∷ []) 9 ∷ telegram (3 ∷ []) 58 ∷ [])
 
 answers : collected_of two (7 ∷ 7 ∷ 7 ∷ 7 ∷ []) (5 ∷ 5 ∷ 5 ∷ []) ∷ collected_of two (7 ∷ 7 ∷ []) (5 ∷ 5 ∷ []) ∷ collected_of two (7 ∷ 7 ∷ 7 ∷ []) (5 ∷ [])
-    ∷ collected_of none (7 ∷ []) (5 ∷ []) ∷ [] ≡ Group 2 3 ∷ Room ∷ Room ∷ Not ∷ []
+    ∷ collected_of none (7 ∷ []) (5 ∷ []) ∷ [] ≡ Ok (2, 3) ∷ (Err Room) ∷ (Err Room) ∷ (Err Other) ∷ []
 unfolding buffer_of
 answers = refl
 

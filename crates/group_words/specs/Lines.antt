@@ -1,14 +1,11 @@
 -- A line as a group of telegrams, and these put into what is lent. Definitions alone.
-use Rattle.std.specs.Prelude.{◌≡◌, Bool, cond, ◌&&◌, List, [], ◌∷◌, ◌++◌, map, ℕ, zero, suc, leb, length, drop}
+use Rattle.std.specs.Prelude.{◌≡◌, Bool, cond, ◌&&◌, List, [], ◌∷◌, ◌++◌, map, ℕ, zero, suc, leb, length, drop, Ok, Err, Result, Some, None}
 use Rattle.std.proofs.Math.Option.{Option, some, none}
 use Rattle.words.specs.Words.{words_in}
 use Rattle.telegram_word.specs.Telegrams.{Telegram, telegram_in}
-use Rattle.group_words.specs.declared.Collected.{Collected}
-use Rattle.group_words.specs.declared.Collected.TheVariants.{Group, Not, Room}
-use Rattle.group_words.specs.declared.Measure.{Measure}
-use Rattle.group_words.specs.declared.Measure.TheVariants as measure
-use Rattle.group_words.specs.declared.Size.{Size}
-use Rattle.group_words.specs.declared.Size.TheVariants as size
+use Rattle.packing.specs.declared.PackError.TheVariants.{Other, Room}
+use Rattle.packing.specs.declared.PackError.{PackError}
+use Rattle.std.specs.Prelude as code
 
 -- ---- the group
 
@@ -53,9 +50,9 @@ counts_over ts before = counts_of ts ++ drop (length ts) before
 abbrev pub roomy : List Telegram → List ℕ → List ℕ → Bool
 roomy ts bytes ns = leb (length (buffer_of ts)) (length bytes) && leb (length ts) (length ns)
 
-abbrev pub collected_of : Option (List Telegram) → List ℕ → List ℕ → Collected
-collected_of none bytes ns = Not
-collected_of (some ts) bytes ns = cond (roomy ts bytes ns) (Group (length ts) (length (buffer_of ts))) Room
+abbrev pub collected_of : Option (List Telegram) → List ℕ → List ℕ → Result (ℕ × ℕ) PackError
+collected_of none bytes ns = Err Other
+collected_of (some ts) bytes ns = cond (roomy ts bytes ns) (Ok (length ts, length (buffer_of ts))) (Err Room)
 
 -- "a refusal leaves everything as it was"
 abbrev pub bytes_then : Option (List Telegram) → List ℕ → List ℕ → List ℕ
@@ -67,20 +64,20 @@ counts_then none bytes ns = ns
 counts_then (some ts) bytes ns = cond (roomy ts bytes ns) (counts_over ts ns) ns
 
 -- what is answered to a line, and what the lent runs then hold
-pub record Collects (line bytes ns : List ℕ) (answered : Collected) (bytes' ns' : List ℕ) : Type 0 where
+pub record Collects (line bytes ns : List ℕ) (answered : Result (ℕ × ℕ) PackError) (bytes' ns' : List ℕ) : Type 0 where
   pub answer : answered ≡ collected_of (line_group line) bytes ns
   pub bytes_held : bytes' ≡ bytes_then (line_group line) bytes ns
   pub counts_held : ns' ≡ counts_then (line_group line) bytes ns
 
 -- ---- of the functions that are not public
 
-abbrev pub size_of : Option Telegram → Size
-size_of none = size.Not
-size_of (some t) = size.Bytes (length t.bytes)
+abbrev pub size_of : Option Telegram → code.Option ℕ
+size_of none = None
+size_of (some t) = Some (length t.bytes)
 
-abbrev pub measured : Option (List Telegram) → Measure
-measured none = measure.Not
-measured (some ts) = measure.Telegrams (length ts) (length (buffer_of ts))
+abbrev pub measured : Option (List Telegram) → code.Option (ℕ × ℕ)
+measured none = None
+measured (some ts) = Some (length ts, length (buffer_of ts))
 
 abbrev pub those : Option (List Telegram) → List Telegram
 those none = []

@@ -8,57 +8,32 @@ ghost use Rattle.words.specs.Words.{words_in};
 ghost use Rattle.telegram_word.specs.Telegrams.{telegram_in};
 ghost use Rattle.group_words.specs.Lines.{most, those, telegrams_in, buffer_of, size_of, measured, bytes_over, counts_over, Collects};
 
-use telegram_word::Lent;
+use packing::PackError;
 
 // No group has more telegrams.
 const MOST: usize = 16;
 
-// What a line is: a group of so many telegrams, whose bytes are so many; no group; or one that there is no room for.
-#[derive(Clone, Copy)]
-pub enum Collected {
-    Group(usize, usize),
-    Not,
-    Room,
-}
-
-// How many telegrams the words of a line are, and how many bytes those have; or that they are no group.
-#[derive(Clone, Copy)]
-enum Measure {
-    Telegrams(usize, usize),
-    Not,
-}
-
-// How many bytes a word's telegram has, or that the word is none.
-#[derive(Clone, Copy)]
-enum Size {
-    Bytes(usize),
-    Not,
-}
-
 // Puts the bytes of a line's telegrams into the front of bytes, one behind the other, and their n into the front of ns. Where the line is no group,
 // or one of the two has too little room, it writes nothing.
-pub fn collect(line: &[u8], bytes: &mut [u8], ns: &mut [usize]) -> Collected
+pub fn collect(line: &[u8], bytes: &mut [u8], ns: &mut [usize]) -> Result<(usize, usize), PackError>
     ensures { Collects line.now bytes.old ns.old result bytes.new ns.new }
 {
     if line.len() == 0 {
-        return Collected::Group(0, 0);
+        return Ok((0, 0));
     }
-    let found = measured(line);
-    let Measure::Telegrams(count, total) = found else {
-        return Collected::Not;
-    };
+    let (count, total) = measured(line).ok_or(PackError::Other)?;
     if bytes.len() < total {
-        return Collected::Room;
+        return Err(PackError::Room);
     }
     if ns.len() < count {
-        return Collected::Room;
+        return Err(PackError::Room);
     }
     lay(line, bytes, ns);
-    Collected::Group(count, total)
+    Ok((count, total))
 }
 
 // What the words of a line measure: no group if one is no telegram, or one too many.
-fn measured(line: &[u8]) -> Measure
+fn measured(line: &[u8]) -> Option<(usize, usize)>
     ensures { result ≡ measured (telegrams_in most (words_in line.now)) }
 {
     let mut at = 0;
@@ -66,30 +41,23 @@ fn measured(line: &[u8]) -> Measure
     let mut total = 0;
     while at <= line.len() {
         if count == MOST {
-            return Measure::Not;
+            return None;
         }
         let end = words::word_end(line, at);
-        let size = bytes_in(&line[at..end]);
-        let Size::Bytes(k) = size else {
-            return Measure::Not;
-        };
-        total += k;
+        total += bytes_in(&line[at..end])?;
         count += 1;
         at = end + 1;
     }
-    Measure::Telegrams(count, total)
+    Some((count, total))
 }
 
-fn bytes_in(word: &[u8]) -> Size
+// How many bytes a word's telegram has, or that the word is none.
+fn bytes_in(word: &[u8]) -> Option<usize>
     ensures { result ≡ size_of (telegram_in word.now) }
 {
     let mut room = [0u8; 128];
-    let lent = telegram_word::telegram(word, &mut room);
-    match lent {
-        Lent::Bytes(k, _) => Size::Bytes(k),
-        Lent::Not => Size::Not,
-        Lent::Room => Size::Not,
-    }
+    let (k, _) = telegram_word::telegram(word, &mut room).ok()?;
+    Some(k)
 }
 
 // Puts the telegrams of a line whose words all are one.
@@ -103,7 +71,7 @@ fn lay(line: &[u8], bytes: &mut [u8], ns: &mut [usize])
     while at <= line.len() {
         let end = words::word_end(line, at);
         let lent = telegram_word::telegram(&line[at..end], &mut bytes[used..]);
-        let Lent::Bytes(k, n) = lent else {
+        let Ok((k, n)) = lent else {
             return;
         };
         ns[i] = n as usize;

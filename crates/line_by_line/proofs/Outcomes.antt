@@ -1,4 +1,5 @@
 -- A program that answers line by line: what it has told where it stands is the answers to the lines of all that came. Assumes nothing.
+use Rattle.std.specs.Prelude.{Ok, Err, Result}
 use mathlib.Core.Path.{◌≡◌, refl, sym, ap, ap₂, ◌∙◌, subst}
 use mathlib.Core.Bool.{Bool, true, false, cond}
 use mathlib.Core.List.{List, [], ◌∷◌, ◌++◌, append-nil}
@@ -9,8 +10,7 @@ use lib.Dec.{eqb, ltb}
 use lib.ListN.{length, take, length-take}
 use lib.Seq.{take-nil}
 use Rattle.blocks.specs.Reading.{held, over, in_hand, taken_on, TakesOn, stopped, fresh, Arrives}
-use Rattle.blocks.specs.declared.Filled.{Filled}
-use Rattle.blocks.specs.declared.Filled.TheVariants.{Bytes, Failed}
+use Rattle.blocks.specs.declared.ReadFailed.{ReadFailed}
 use Rattle.blocks.specs.declared.Input.{Input}
 use Rattle.queue.specs.declared.Queue.{Queue}
 use Rattle.queue.proofs.Joining.{joins_length}
@@ -75,17 +75,17 @@ module _ {f : List ℕ → List ℕ} {came told block line : List ℕ} {i : Inpu
   unfolding taken_on
   some_open n t = on (ap (λ (x : Input). x.ended) t.stands) (taken_open tells (fresh_open o few block' n) t)
 
-  arrived : (got : Filled) → Arrives block' line i got r line' → After (brought block' got)
-  arrived Failed a = failed_cut a.stands
-  arrived (Bytes n) a = by (eqb n 0) refl
+  arrived : (got : Result ℕ ReadFailed) → Arrives block' line i got r line' → After (brought block' got)
+  arrived (Err _) a = failed_cut a.stands
+  arrived (Ok n) a = by (eqb n 0) refl
     where
       by : (b : Bool) → eqb n 0 ≡ b → After (take n block')
       by true e = none_ends n (eqb-true n 0 e) (a.stands ∙ rw e) (a.text ∙ rw e)
       by false e = some_open n (record { stands = a.stands ∙ rw e; text = a.text ∙ rw e })
 
-pub arrives_length : {block line line' : List ℕ} {i r : Input} (got : Filled) → Arrives block line i got r line' → length line' ≡ length line
-arrives_length Failed a = ap length a.text
-arrives_length {block} {line} {i = i} (Bytes n) a = ap length a.text ∙ by (eqb n 0)
+pub arrives_length : {block line line' : List ℕ} {i r : Input} (got : Result ℕ ReadFailed) → Arrives block line i got r line' → length line' ≡ length line
+arrives_length (Err _) a = ap length a.text
+arrives_length {block} {line} {i = i} (Ok n) a = ap length a.text ∙ by (eqb n 0)
   where
     by : (b : Bool) → length (cond b line (over (in_hand block line (fresh n i)) line)) ≡ length line
     by true = refl

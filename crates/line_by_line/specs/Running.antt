@@ -1,9 +1,8 @@
 -- A program that answers line by line, from its start to where it stands. Definitions alone.
-use Rattle.std.specs.Prelude.{◌≡◌, Bool, true, false, cond, not, ◌&&◌, ℕ, ◌≤◌, ◌<◌, ltb, length, take}
+use Rattle.std.specs.Prelude.{◌≡◌, Bool, true, false, cond, not, ◌&&◌, ℕ, ◌≤◌, ◌<◌, ltb, length, take, Ok, Err, Result}
 use mathlib.Core.List.{List, [], ◌++◌, IsPrefix}
 use Rattle.blocks.specs.Reading.{nothing, TakesOn, Arrival}
-use Rattle.blocks.specs.declared.Filled.{Filled}
-use Rattle.blocks.specs.declared.Filled.TheVariants.{Bytes, Failed}
+use Rattle.blocks.specs.declared.ReadFailed.{ReadFailed}
 use Rattle.blocks.specs.declared.Input.{Input}
 use Rattle.queue.specs.Waiting.{waiting, Joins}
 use Rattle.queue.specs.declared.Queue.{Queue}
@@ -21,9 +20,9 @@ empty = record { waiting = 0; lost = false }
 -- ---- a turn
 
 -- what a read brought
-abbrev pub brought : List ℕ → Filled → List ℕ
-brought block (Bytes n) = take n block
-brought block Failed = []
+abbrev pub brought : List ℕ → Result ℕ ReadFailed → List ℕ
+brought block (Ok n) = take n block
+brought block (Err _) = []
 
 -- what is put for the line in hand: the answer to what is kept of it, if it is whole
 abbrev pub reply : (List ℕ → List ℕ) → List ℕ → Input → List ℕ

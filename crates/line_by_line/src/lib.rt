@@ -12,11 +12,5 @@ use queue::Queue;
 pub fn goes_on(input: Input, q: Queue, turns: u64) -> bool
     ensures { result ≡ goes_on input q turns }
 {
-    if q.lost {
-        return false;
-    }
-    if input.ended {
-        return false;
-    }
-    0 < turns
+    !q.lost && !input.ended && 0 < turns
 }

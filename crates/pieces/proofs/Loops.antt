@@ -1,4 +1,5 @@
 -- What the loops of the code go by that read and write decimal digits, and what each return of theirs answers. Assumes nothing.
+use Rattle.std.specs.Prelude.{Some, None}
 use mathlib.Core.Path.{◌≡◌, sym, ap, ap₂, ◌∙◌}
 use mathlib.Core.Bool.{Bool, true, false, cond}
 use mathlib.Core.List.{List, [], ◌∷◌, ◌++◌, append_assoc, append-nil}
@@ -11,7 +12,6 @@ use borrow.Author.Tests.{lt-ltb, le-ltb, ne_eqb}
 use lib.ListN.{length, drop, get_or, set, length-set, drop_of_length-le}
 use lib.Seq.{drop-cons, get_or-set_same, drop-set-lt}
 use Rattle.pieces.specs.Numbers.{digits_of, decimal, Found, found, is_digit, digits_from, bounded, decimal_in, read_at}
-use Rattle.pieces.specs.declared.Number.TheVariants.{Read, Not}
 use Rattle.pieces.proofs.Decimals.{digits_one, digits_more, from_digit, from_other}
 
 -- ---- the loop of `digits_at`
@@ -53,17 +53,17 @@ reading_first text at =
     record { behind = omega arith; small = omega arith; goes = ap (λ (k : ℕ). digits_from 0 k (drop at text)) (omega arith) }
 
 module _ {text : List ℕ} {at v i : ℕ} (r : Reading text at v i) where
-  reads_to : digits_from v (i - at) (drop i text) ≡ found v (i - at) → read_at at (bounded (digits_from 0 0 (drop at text))) ≡ Read v i
+  reads_to : digits_from v (i - at) (drop i text) ≡ found v (i - at) → read_at at (bounded (digits_from 0 0 (drop at text))) ≡ Some (v, i)
   reads_to e =
       let here : at + (i - at) ≡ i = omega (arith, r.behind) in
-      ap (λ (x : Found). read_at at (bounded x)) (r.goes ∙ e) ∙ rw (lt-ltb v (2 ^ 64) r.small) (ap (Read v) here)
+      ap (λ (x : Found). read_at at (bounded x)) (r.goes ∙ e) ∙ rw (lt-ltb v (2 ^ 64) r.small) (ap (λ (e : ℕ). Some (v, e)) here)
 
   -- at the end of the text, or of the digits
-  pub reads_end : length text ≤ i → read_at at (bounded (digits_from 0 0 (drop at text))) ≡ Read v i
+  pub reads_end : length text ≤ i → read_at at (bounded (digits_from 0 0 (drop at text))) ≡ Some (v, i)
   reads_end l = reads_to (digits_end text v (i - at) i l)
 
   module _ (l : i < length text) where
-    pub reads_off : is_digit (get_or text i 0) ≡ false → read_at at (bounded (digits_from 0 0 (drop at text))) ≡ Read v i
+    pub reads_off : is_digit (get_or text i 0) ≡ false → read_at at (bounded (digits_from 0 0 (drop at text))) ≡ Some (v, i)
     reads_off e = reads_to (digits_off text v (i - at) i l e)
 
     goes_on : is_digit (get_or text i 0) ≡ true
@@ -78,7 +78,7 @@ module _ {text : List ℕ} {at v i : ℕ} (r : Reading text at v i) where
 
     -- once it is past 64 bits it stays so
     pub reads_large : is_digit (get_or text i 0) ≡ true → 2 ^ 64 ≤ 10 * v + (get_or text i 0 - 48)
-        → read_at at (bounded (digits_from 0 0 (drop at text))) ≡ Not
+        → read_at at (bounded (digits_from 0 0 (drop at text))) ≡ None
     reads_large e h =
         let g = goes_on e in
         let big : 2 ^ 64 ≤ (digits_from 0 0 (drop at text)).value =
@@ -87,12 +87,12 @@ module _ {text : List ℕ} {at v i : ℕ} (r : Reading text at v i) where
 
 -- ---- what `decimal_at` answers at each return
 
-pub at_end : (text : List ℕ) (at : ℕ) → length text ≤ at → read_at at (decimal_in (drop at text)) ≡ Not
+pub at_end : (text : List ℕ) (at : ℕ) → length text ≤ at → read_at at (decimal_in (drop at text)) ≡ None
 unfolding decimal_in
 at_end text at h = rw (drop_of_length-le text {i = at} h)
 
 module _ (text : List ℕ) (at : ℕ) (h : at < length text) where
-  pub at_zero : get_or text at 0 ≡ 48 → read_at at (decimal_in (drop at text)) ≡ Read 0 (at + 1)
+  pub at_zero : get_or text at 0 ≡ 48 → read_at at (decimal_in (drop at text)) ≡ Some (0, at + 1)
   unfolding decimal_in
   at_zero e = rw (drop-cons text at 0 h, e)
 
@@ -102,7 +102,7 @@ module _ (text : List ℕ) (at : ℕ) (h : at < length text) where
     unfolding decimal_in
     at_char b e = rw (drop-cons text at 0 h, ne_eqb (get_or text at 0) 48 n, e)
 
-    pub at_other : is_digit (get_or text at 0) ≡ false → read_at at (decimal_in (drop at text)) ≡ Not
+    pub at_other : is_digit (get_or text at 0) ≡ false → read_at at (decimal_in (drop at text)) ≡ None
     at_other e = ap (read_at at) (at_char false e)
 
     pub at_digits : is_digit (get_or text at 0) ≡ true → read_at at (decimal_in (drop at text)) ≡ read_at at (bounded (digits_from 0 0 (drop at text)))

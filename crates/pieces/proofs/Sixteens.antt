@@ -1,6 +1,7 @@
 -- Numbers as sixteen places: what is written is read, nothing else is, and what the loops of the code go by. Assumes nothing.
+use Rattle.std.specs.Prelude.{Some, None}
 use mathlib.Core.Path.{◌≡◌, refl, sym, ap, ◌∙◌}
-use mathlib.Core.Bool.{Bool, true, false, cond, ◌||◌}
+use mathlib.Core.Bool.{Bool, true, false, cond, ◌||◌, or-false}
 use mathlib.Core.List.{List, [], ◌∷◌, ◌++◌, append_assoc, append-nil}
 use mathlib.Core.Option.{Option, some, none}
 use Prim.Native.Nat.{ℕ, zero, suc, ◌+◌, ◌-◌, ◌*◌, ◌/◌, ◌%◌, ◌^◌, ◌≤◌, ◌<◌}
@@ -12,7 +13,6 @@ use lib.Dec.{eqb, leb}
 use lib.ListN.{length, drop, get_or, set, length-append, length-set, drop_of_length-le}
 use lib.Seq.{drop-cons}
 use Rattle.pieces.specs.Numbers.{letter, places_of, sixteen, Found, found, is_digit, is_place, place_of, places_from, counted, sixteen_in, read_at}
-use Rattle.pieces.specs.declared.Number.TheVariants.{Read, Not}
 use Rattle.pieces.proofs.Decimals.{Fronted, digit_bounds, is_digit_lem}
 use Rattle.pieces.proofs.Loops.{put_last}
 
@@ -182,28 +182,28 @@ pub reading_first : (text : List ℕ) (at : ℕ) → Reading text at 0 at 0
 reading_first text at = record { few = omega arith; here = sym (add-zero at); small = omega arith; goes = refl }
 
 module _ {text : List ℕ} {at v i k : ℕ} (r : Reading text at v i k) where
-  pub reads_all : 16 ≤ k → read_at at (sixteen_in (drop at text)) ≡ Read v i
+  pub reads_all : 16 ≤ k → read_at at (sixteen_in (drop at text)) ≡ Some (v, i)
   unfolding sixteen_in
   reads_all h =
       let none : 16 - k ≡ 0 = omega arith in
       let last : k ≡ 16 = omega (arith, r.few) in
       ap (λ (x : Option ℕ). read_at at (counted 16 x)) (r.goes ∙ ap (λ (x : ℕ). places_from x v (drop i text)) none ∙ none_left v (drop i text))
-      ∙ ap (Read v) (sym (r.here ∙ ap (λ (x : ℕ). at + x) last))
+      ∙ ap (λ (e : ℕ). Some (v, e)) (sym (r.here ∙ ap (λ (x : ℕ). at + x) last))
 
   module _ (l : k < 16) where
     left : 16 - k ≡ suc (16 - (k + 1))
     left = omega arith
 
-    stops : places_from (suc (16 - (k + 1))) v (drop i text) ≡ none → read_at at (sixteen_in (drop at text)) ≡ Not
+    stops : places_from (suc (16 - (k + 1))) v (drop i text) ≡ none → read_at at (sixteen_in (drop at text)) ≡ None
     unfolding sixteen_in
     stops e = ap (λ (x : Option ℕ). read_at at (counted 16 x)) (r.goes ∙ ap (λ (x : ℕ). places_from x v (drop i text)) left ∙ e)
 
-    pub reads_short : length text ≤ i → read_at at (sixteen_in (drop at text)) ≡ Not
+    pub reads_short : length text ≤ i → read_at at (sixteen_in (drop at text)) ≡ None
     unfolding places_from
     reads_short h = stops (rw (drop_of_length-le text {i = i} h))
 
     module _ (h : i < length text) where
-      pub reads_other : is_place (get_or text i 0) ≡ false → read_at at (sixteen_in (drop at text)) ≡ Not
+      pub reads_other : is_place (get_or text i 0) ≡ false → read_at at (sixteen_in (drop at text)) ≡ None
       unfolding places_from
       reads_other e = stops (rw (drop-cons text i 0 h, e))
 
@@ -258,18 +258,10 @@ module _ {v : ℕ} {d : List ℕ} {n : ℕ} where
 
 -- ---- the characters, as the code tells them apart
 
-pub or_yes : (b : Bool) → (b || true) ≡ true
-or_yes true = refl
-or_yes false = refl
-
-pub or_no : (b : Bool) → (b || false) ≡ b
-or_no true = refl
-or_no false = refl
-
 -- a place that is no F is a digit
 pub place_low : (c : ℕ) → is_place c ≡ true → (c ≡ 70 → ⊥) → 48 ≤ c
 place_low c e n =
-    (digit_bounds c (sym (or_no (is_digit c)) ∙ ap (λ (b : Bool). is_digit c || b) (sym (ne_eqb c 70 n)) ∙ e)).0
+    (digit_bounds c (sym (or-false (is_digit c)) ∙ ap (λ (b : Bool). is_digit c || b) (sym (ne_eqb c 70 n)) ∙ e)).0
 
 -- k places hold a number of 64 bits
 pub small_places : (k : ℕ) → k ≤ 16 → 16 ^ k ≤ 2 ^ 64

@@ -1,8 +1,7 @@
 -- docs/RULES.md, "Data sheets": numbers as text, written and read. Definitions alone.
-use Rattle.std.specs.Prelude.{Bool, cond, ◌&&◌, ◌||◌, List, [], ◌∷◌, ◌++◌, ℕ, zero, suc, ◌+◌, ◌-◌, ◌*◌, ◌/◌, ◌%◌, ◌^◌, eqb, leb, ltb}
+use Rattle.std.specs.Prelude.{Bool, cond, ◌&&◌, ◌||◌, List, [], ◌∷◌, ◌++◌, ℕ, zero, suc, ◌+◌, ◌-◌, ◌*◌, ◌/◌, ◌%◌, ◌^◌, eqb, leb, ltb, Some, None}
 use Rattle.std.proofs.Math.Option.{Option, some, none}
-use Rattle.pieces.specs.declared.Number.{Number}
-use Rattle.pieces.specs.declared.Number.TheVariants.{Read, Not}
+use Rattle.std.specs.Prelude as code
 
 -- ---- written
 
@@ -76,6 +75,6 @@ unfoldable pub sixteen_in : List ℕ → Option Found
 sixteen_in text = counted 16 (places_from 16 0 text)
 
 -- the answer of what reads a number at a position: its value, and where it ends
-abbrev pub read_at : ℕ → Option Found → Number
-read_at at none = Not
-read_at at (some x) = Read x.value (at + x.count)
+abbrev pub read_at : ℕ → Option Found → code.Option (ℕ × ℕ)
+read_at at none = None
+read_at at (some x) = Some (x.value, at + x.count)

@@ -4,30 +4,11 @@
 ghost use Rattle.std.specs.Prelude.{◌≡◌, drop};
 ghost use Rattle.pieces.specs.Pieces.{begins, Appended};
 
-// A number that stands in a text, with its value and the position behind it, or that there is none.
-#[derive(Clone, Copy)]
-pub enum Number {
-    Read(u64, usize),
-    Not,
-}
-
 // Whether the text goes on with a piece from at on.
 pub fn begins(text: &[u8], at: usize, piece: &[u8]) -> bool
     ensures { result ≡ begins piece.now (drop at text.now) }
 {
-    let mut j = at;
-    let mut i = 0;
-    while i < piece.len() {
-        if text.len() <= j {
-            return false;
-        }
-        if piece[i] != text[j] {
-            return false;
-        }
-        j += 1;
-        i += 1;
-    }
-    true
+    text[at.min(text.len())..].starts_with(piece)
 }
 
 // Puts a piece into out from at on, and gives where it ends. A piece that finds no room there is not put, and ends where it was to begin.
@@ -40,10 +21,7 @@ pub fn append(out: &mut [u8], at: usize, piece: &[u8]) -> usize
     if out.len() - at < piece.len() {
         return at;
     }
-    let mut i = 0;
-    while i < piece.len() {
-        out[at + i] = piece[i];
-        i += 1;
-    }
-    at + piece.len()
+    let end = at + piece.len();
+    out[at..end].copy_from_slice(piece);
+    end
 }

@@ -7,10 +7,10 @@ ghost use Rattle.queue.specs.Waiting.{Joins, Flushed};
 
 use word64::lower;
 
-// The number of standard output.
+// The number of standard output, by which `Flushed` tells what the outside did: `io::write_all` takes it, and no handle.
 const STDOUT: i32 = 1;
 
-// How many characters wait at the front of the array, and whether some could not be written.
+// How many characters wait at the front of the array, and whether some could not be written. The flag is no tag: some wait whether or not others were lost.
 #[derive(Clone, Copy)]
 pub struct Queue {
     pub waiting: usize,
@@ -79,13 +79,7 @@ pub fn say(out: &mut [u8], q: Queue, piece: &[u8]) -> Queue
 fn roomy(out: &[u8], at: usize, n: usize) -> bool
     ensures { result ≡ true → at + n ≤ length out.now }
 {
-    if out.len() < at {
-        return false;
-    }
-    if out.len() - at < n {
-        return false;
-    }
-    true
+    at <= out.len() && n <= out.len() - at
 }
 
 // Puts a piece character by character.
@@ -93,10 +87,8 @@ fn singly(out: &mut [u8], q: Queue, piece: &[u8]) -> Queue
     ensures { Joins piece.now q out.old result out.new }
 {
     let mut r = q;
-    let mut i = 0;
-    while i < piece.len() {
-        r = put(out, r, piece[i]);
-        i += 1;
+    for c in piece {
+        r = put(out, r, *c);
     }
     r
 }

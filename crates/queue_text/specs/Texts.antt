@@ -1,7 +1,6 @@
 -- Words and refusals as text. Definitions alone.
-use Rattle.std.specs.Prelude.{List, [], ◌∷◌, ◌++◌, ℕ}
+use Rattle.std.specs.Prelude.{List, [], ◌∷◌, ◌++◌, ℕ, Err}
 use Rattle.format.specs.Refusals.{in_numbers}
-use Rattle.format.specs.declared.Answer.TheVariants.{Refused}
 use Rattle.format.specs.declared.Refusal.{Refusal}
 use Rattle.pieces.specs.Numbers.{decimal}
 
@@ -21,4 +20,4 @@ refused_word = 114 ∷ 101 ∷ 102 ∷ 117 ∷ 115 ∷ 101 ∷ 100 ∷ 32 ∷ []
 
 -- "`refused NUMBER PLACE`"
 unfoldable pub refusal_text : Refusal → List ℕ
-refusal_text r = refused_word ++ decimal (in_numbers (Refused r)).0 ++ space ++ decimal (in_numbers (Refused r)).1 ++ newline
+refusal_text r = refused_word ++ decimal (in_numbers (Err r)).0 ++ space ++ decimal (in_numbers (Err r)).1 ++ newline

@@ -25,13 +25,11 @@ pub fn characters(out: &mut [u8], q: Queue, s: &[u8], n: usize) -> Queue
     ensures { Joins (characters (take n (bits_of s.now))) q out.old result out.new }
 {
     let mut r = q;
-    let mut at = 0;
-    while at < n {
+    for at in 0..n {
         if s.len() <= at / 8 {
             return r;
         }
         r = queue::put(out, r, packing::character(s, at + 1, at));
-        at += 1;
     }
     r
 }
@@ -40,9 +38,8 @@ pub fn characters(out: &mut [u8], q: Queue, s: &[u8], n: usize) -> Queue
 pub fn refused(out: &mut [u8], q: Queue, refusal: Refusal) -> Queue
     ensures { Joins (refusal_text refusal) q out.old result out.new }
 {
-    let kind = refusal.kind;
     let a = queue::say(out, q, b"refused ");
-    let b = number(out, a, refusals::number(kind));
+    let b = number(out, a, refusals::number(refusal.kind));
     let c = queue::put(out, b, b' ');
     let d = number(out, c, refusal.place as u64);
     queue::put(out, d, b'\n')

@@ -46,9 +46,7 @@ fn places(v: u64, d: &mut [u8])
     ensures { d.new ≡ sixteen v }
 {
     let mut n = v;
-    let mut i: usize = 16;
-    while 0 < i {
-        i -= 1;
+    for i in (0..16).rev() {
         d[i] = letter(n % 16);
         n /= 16;
     }
@@ -57,8 +55,8 @@ fn places(v: u64, d: &mut [u8])
 fn letter(d: u64) -> u8
     ensures { result ≡ letter d }
 {
-    if 9 < d {
-        return b'F';
+    match d {
+        0..=9 => b'0' + d as u8,
+        _ => b'F',
     }
-    b'0' + d as u8
 }

@@ -1,14 +1,15 @@
 -- Bytes of two characters each: what a character stands for, and what the loops over them go by. Assumes nothing.
 use mathlib.Core.Path.{◌≡◌, refl, sym, ap, ap₂, ◌∙◌}
-use mathlib.Core.Bool.{Bool, true, false, ◌&&◌}
+use mathlib.Core.Bool.{Bool, true, false, ◌&&◌, and-false}
 use mathlib.Core.List.{List, [], ◌∷◌, ◌++◌}
 use Prim.Native.Nat.{ℕ, zero, suc, ◌+◌, ◌-◌, ◌*◌, ◌/◌, ◌%◌, ◌≤◌, ◌<◌}
 use native.Mathlib.Numerals.{add-one}
 use native.Mathlib.Omega.{arith}
-use borrow.Author.Tests.{le-leb, lt-leb, lt-ltb, le-ltb, ltb-true, leb-true, eqb-true, eq-eqb, ne_eqb}
+use borrow.Author.Tests.{le-leb, lt-leb, ltb-true, leb-true, eqb-true, eq-eqb, ne_eqb}
 use lib.Dec.{leb, ltb, eqb}
-use lib.ListN.{length, take, drop, get_or, set, drop_of_length-le}
+use lib.ListN.{length, take, drop, get_or, set}
 use lib.Seq.{drop-cons, length-take-le, get_or-take, set_at, append_snoc}
+use Rattle.std.specs.List.{list_all}
 use Rattle.telegram_word.specs.Telegrams.{hex_of, hexed, in_pairs, bytes_in}
 
 -- ---- the ways through `digit`
@@ -45,34 +46,14 @@ module _ (c : ℕ) where
   hex_behind l =
       rw (le-leb 48 c (omega arith), lt-leb c 57 (omega arith), le-leb 65 c (omega arith), lt-leb c 70 (omega arith), le-leb 97 c (omega arith), lt-leb c 102 l)
 
--- ---- the loop of `in_pairs`
+-- ---- as `in_pairs` tests them
 
-module _ (text : List ℕ) (end i : ℕ) (e : end ≤ length text) where
-  long : length (take end text) ≡ end
-  long = length-take-le end text e
-
-  pub hexed_end : end ≤ i → hexed (drop i (take end text)) ≡ true
-  unfolding hexed
-  hexed_end h = rw (drop_of_length-le (take end text) {i = i} (rw long h))
-
-  module _ (h : i < end) where
-    hexed_at : hexed (drop i (take end text)) ≡ (ltb (hex_of (get_or text i 0)) 16 && hexed (drop (i + 1) (take end text)))
-    unfolding hexed
-    hexed_at =
-        ap hexed (drop-cons (take end text) i 0 (rw long h))
-        ∙ ap₂ (λ (a k : ℕ). ltb (hex_of a) 16 && hexed (drop k (take end text))) (get_or-take end text i 0 h) (sym (add-one i))
-
-    pub hexed_on : hex_of (get_or text i 0) < 16 → hexed (drop i (take end text)) ≡ hexed (drop (i + 1) (take end text))
-    hexed_on l = hexed_at ∙ rw (lt-ltb (hex_of (get_or text i 0)) 16 l)
-
-    pub hexed_off : 15 < hex_of (get_or text i 0) → hexed (drop i (take end text)) ≡ false
-    hexed_off l = hexed_at ∙ rw (le-ltb (hex_of (get_or text i 0)) 16 l)
+pub hexed_all : (text : List ℕ) → list_all (λ (c : ℕ). ltb (hex_of c) 16) text ≡ hexed text
+unfolding hexed
+hexed_all [] = refl
+hexed_all (c ∷ text) = ap (λ (b : Bool). ltb (hex_of c) 16 && b) (hexed_all text)
 
 -- ---- what `in_pairs` answers at each return
-
-pub no_and : (b : Bool) → (b && false) ≡ false
-no_and true = refl
-no_and false = refl
 
 module _ (text : List ℕ) where
   pub pairs_long : 256 < length text → in_pairs text ≡ false
@@ -81,7 +62,7 @@ module _ (text : List ℕ) where
 
   pub pairs_odd : (length text % 2 ≡ 0 → ⊥) → in_pairs text ≡ false
   unfolding in_pairs
-  pairs_odd h = rw (ne_eqb (length text % 2) 0 h) (no_and (leb (length text) 256))
+  pairs_odd h = rw (ne_eqb (length text % 2) 0 h) (and-false (leb (length text) 256))
 
   pub pairs_even : length text ≤ 256 → length text % 2 ≡ 0 → in_pairs text ≡ hexed text
   unfolding in_pairs

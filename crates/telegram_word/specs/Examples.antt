@@ -1,5 +1,5 @@
 -- Worked examples of the definitions, each computed by the checker. Assumes nothing.
-use Rattle.std.specs.Prelude.{◌≡◌, refl, List, [], ◌∷◌, ◌++◌, map, ℕ, replicate}
+use Rattle.std.specs.Prelude.{◌≡◌, refl, List, [], ◌∷◌, ◌++◌, map, ℕ, replicate, Ok, Err}
 use Rattle.std.proofs.Math.Option.{Option, some, none}
 use Prim.Native.Char.{code}
 use Prim.Native.String.{String}
@@ -8,8 +8,8 @@ use Rattle.packing.specs.Packing.{binary}
 use Rattle.pieces.specs.Numbers.{decimal_in, digits_from}
 use Rattle.words.specs.Words.{up_to, number_in}
 use Rattle.telegram_word.specs.Telegrams.{Telegram, telegram, hex_of, hexed, in_pairs, bytes_in, bits_form, hex_form, telegram_in, lent_of, lent_over}
-use Rattle.telegram_word.specs.declared.Lent.TheVariants as lent
 use Prim.Native.String as string
+use Rattle.packing.specs.declared.PackError.TheVariants.{Other, Room}
 
 abbrev text_of : String → List ℕ
 text_of string.[] = []
@@ -54,7 +54,7 @@ longest = refl
 abbrev word : Option Telegram
 word = telegram_in (text_of "0102:9")
 
-put : lent_of word (7 ∷ 7 ∷ 7 ∷ []) ∷ lent_of word (7 ∷ []) ∷ lent_of none (7 ∷ []) ∷ [] ≡ lent.Bytes 2 9 ∷ lent.Room ∷ lent.Not ∷ []
+put : lent_of word (7 ∷ 7 ∷ 7 ∷ []) ∷ lent_of word (7 ∷ []) ∷ lent_of none (7 ∷ []) ∷ [] ≡ Ok (2, 9) ∷ (Err Room) ∷ (Err Other) ∷ []
 unfolding telegram_in bits_form binary hex_form up_to hex_of hexed in_pairs bytes_in number_in decimal_in digits_from
 put = refl
 

@@ -1,13 +1,12 @@
 -- "A TELEGRAM is a word of one of two forms": its bytes and n, and those bytes put into what is lent. Definitions alone.
-use Rattle.std.specs.Prelude.{◌≡◌, Bool, true, cond, ◌&&◌, List, [], ◌∷◌, ◌++◌, ℕ, suc, ◌+◌, ◌-◌, ◌*◌, ◌%◌, eqb, leb, ltb, length, take, drop}
+use Rattle.std.specs.Prelude.{◌≡◌, Bool, true, cond, ◌&&◌, List, [], ◌∷◌, ◌++◌, ℕ, suc, ◌+◌, ◌-◌, ◌*◌, ◌%◌, eqb, leb, ltb, length, take, drop, Some, None, Ok, Err, Result}
 use Rattle.std.proofs.Math.Option.{Option, some, none}
 use Rattle.bits.specs.Bits.{bytes_of}
 use Rattle.packing.specs.Packing.{binary, bits_in}
 use Rattle.words.specs.Words.{up_to, number_in}
-use Rattle.words.specs.declared.Figure.{Figure}
-use Rattle.words.specs.declared.Figure.TheVariants as figure
-use Rattle.telegram_word.specs.declared.Lent.{Lent}
-use Rattle.telegram_word.specs.declared.Lent.TheVariants.{Bytes, Not, Room}
+use Rattle.std.specs.Prelude as code
+use Rattle.packing.specs.declared.PackError.TheVariants.{Other, Room}
+use Rattle.packing.specs.declared.PackError.{PackError}
 
 -- what a telegram word says: bytes as they are lent, and a count of bits that need not fit them
 pub record Telegram : Type 0 where
@@ -45,9 +44,9 @@ bytes_in [] = []
 bytes_in (a ∷ []) = []
 bytes_in (a ∷ b ∷ text) = (16 * hex_of a + hex_of b) ∷ bytes_in text
 
-abbrev pub counted : List ℕ → Figure → Option Telegram
-counted bytes figure.Not = none
-counted bytes (figure.Is n) = some (telegram bytes n)
+abbrev pub counted : List ℕ → code.Option ℕ → Option Telegram
+counted bytes None = none
+counted bytes (Some n) = some (telegram bytes n)
 
 -- "the bytes as they are lent; a colon; n, a number below 2^64": what stands in front of the colon, and what stands behind it
 abbrev pub hex_and : List ℕ → List ℕ → Option Telegram
@@ -71,9 +70,9 @@ telegram_in word = either (bits_form word) (hex_form word)
 abbrev pub roomy : Telegram → List ℕ → Bool
 roomy t before = leb (length t.bytes) (length before)
 
-abbrev pub lent_of : Option Telegram → List ℕ → Lent
-lent_of none before = Not
-lent_of (some t) before = cond (roomy t before) (Bytes (length t.bytes) t.n) Room
+abbrev pub lent_of : Option Telegram → List ℕ → Result (ℕ × ℕ) PackError
+lent_of none before = Err Other
+lent_of (some t) before = cond (roomy t before) (Ok (length t.bytes, t.n)) (Err Room)
 
 -- the bytes in front, and behind them what was there; all of that where there is no telegram, or no room for it
 abbrev pub lent_over : Option Telegram → List ℕ → List ℕ
@@ -81,6 +80,6 @@ lent_over none before = before
 lent_over (some t) before = cond (roomy t before) (t.bytes ++ drop (length t.bytes) before) before
 
 -- what is answered, and what the lent bytes then hold
-pub record Lends (t : Option Telegram) (before : List ℕ) (answered : Lent) (after : List ℕ) : Type 0 where
+pub record Lends (t : Option Telegram) (before : List ℕ) (answered : Result (ℕ × ℕ) PackError) (after : List ℕ) : Type 0 where
   pub answer : answered ≡ lent_of t before
   pub contents : after ≡ lent_over t before

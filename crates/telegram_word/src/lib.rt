@@ -1,21 +1,16 @@
 // The telegram that a word of a line writes: its bytes put into what is lent, and n. The public function answers every input.
 #![tactic(auto)]
 
-ghost use Rattle.std.specs.Prelude.{◌≡◌, true, ◌++◌, ◌*◌, ◌≤◌, ◌<◌, length, take, drop};
+ghost use Rattle.std.specs.Prelude.{◌≡◌, true, ◌++◌, ◌*◌, ◌≤◌, ◌<◌, ltb, length, take, drop};
+ghost use Rattle.std.specs.List.{list_all};
 ghost use Rattle.words.specs.Words.{up_to};
 ghost use Rattle.telegram_word.specs.Telegrams.{hex_of, hexed, in_pairs, bytes_in, bits_form, hex_form, telegram_in, Lends};
 
-// What a telegram word lends: how many bytes were put, and n; or that the word is none, or that there is no room for its bytes.
-#[derive(Clone, Copy)]
-pub enum Lent {
-    Bytes(usize, u64),
-    Not,
-    Room,
-}
+use packing::PackError;
 
 // Puts the bytes of a telegram word into the front of out, and answers how many there are, and n. Where the word is no telegram,
 // or out has too little room, it writes nothing.
-pub fn telegram(word: &[u8], out: &mut [u8]) -> Lent
+pub fn telegram(word: &[u8], out: &mut [u8]) -> Result<(usize, u64), PackError>
     ensures { Lends (telegram_in word.now) out.old result out.new }
 {
     let colon = words::until(word, 0, b':');
@@ -26,41 +21,34 @@ pub fn telegram(word: &[u8], out: &mut [u8]) -> Lent
 }
 
 // The same of the characters 0 and 1.
-fn of_bits(word: &[u8], out: &mut [u8]) -> Lent
+fn of_bits(word: &[u8], out: &mut [u8]) -> Result<(usize, u64), PackError>
     ensures { Lends (bits_form word.now) out.old result out.new }
 {
     if word.len() < 1 {
-        return Lent::Not;
+        return Err(PackError::Other);
     }
     if 1024 < word.len() {
-        return Lent::Not;
+        return Err(PackError::Other);
     }
-    let packed = packing::pack(word, out);
-    match packed {
-        packing::Packed::Bits(n) => Lent::Bytes(bits::bytes_for(n), n as u64),
-        packing::Packed::Other => Lent::Not,
-        packing::Packed::Room => Lent::Room,
-    }
+    let n = packing::pack(word, out)?;
+    Ok((bits::bytes_for(n), n as u64))
 }
 
 // The same of a word whose first colon is known.
-fn of_hex(word: &[u8], colon: usize, out: &mut [u8]) -> Lent
+fn of_hex(word: &[u8], colon: usize, out: &mut [u8]) -> Result<(usize, u64), PackError>
     requires { (colon ≡ up_to 58 word.now) × (colon < length word.now) }
     ensures { Lends (hex_form word.now) out.old result out.new }
 {
     if !in_pairs(word, colon) {
-        return Lent::Not;
+        return Err(PackError::Other);
     }
-    let figure = words::number(&word[colon + 1..]);
-    let words::Figure::Is(n) = figure else {
-        return Lent::Not;
-    };
+    let n = words::number(&word[colon + 1..]).ok_or(PackError::Other)?;
     let k = colon / 2;
     if out.len() < k {
-        return Lent::Room;
+        return Err(PackError::Room);
     }
     fill(word, k, out);
-    Lent::Bytes(k, n)
+    Ok((k, n))
 }
 
 // Whether the characters in front of an end are those of 0 to 128 bytes, two each.
@@ -74,14 +62,14 @@ fn in_pairs(text: &[u8], end: usize) -> bool
     if end % 2 != 0 {
         return false;
     }
-    let mut i = 0;
-    while i < end {
-        if 15 < digit(text[i]) {
-            return false;
-        }
-        i += 1;
-    }
-    true
+    hexed(&text[..end])
+}
+
+// Whether every character is hexadecimal.
+fn hexed(text: &[u8]) -> bool
+    ensures { result ≡ list_all (λ c. ltb (hex_of c) 16) text.now }
+{
+    text.iter().all(|c| digit(*c) < 16)
 }
 
 // What a character 0 to 9, A to F or a to f stands for, and 16 for any other.
@@ -101,9 +89,7 @@ fn fill(text: &[u8], k: usize, out: &mut [u8])
     requires { (2 * k ≤ length text.now) × (hexed (take (2 * k) text.now) ≡ true) × (k ≤ length out.old) }
     ensures { out.new ≡ bytes_in (take (2 * k) text.now) ++ drop k out.old }
 {
-    let mut i = 0;
-    while i < k {
+    for i in 0..k {
         out[i] = 16 * digit(text[2 * i]) + digit(text[2 * i + 1]);
-        i += 1;
     }
 }

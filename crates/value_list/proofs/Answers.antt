@@ -1,4 +1,5 @@
 -- What a caller of `values_in` learns from each answer. Assumes nothing.
+use Rattle.std.specs.Prelude.{Some, None, ℕ}
 use mathlib.Core.Path.{◌≡◌, refl, sym, ap, ◌∙◌}
 use mathlib.Core.List.{List}
 use mathlib.Core.Option.{Option, some, none}
@@ -7,8 +8,7 @@ use native.Mathlib.Omega.{arith}
 use lib.ListN.{length, take, drop, length-append}
 use lib.Seq.{take_at}
 use Rattle.value_list.specs.Values.{values_in, count_of, over, Taken}
-use Rattle.value_list.specs.declared.Values.{Values}
-use Rattle.value_list.specs.declared.Values.TheVariants.{Count, Other}
+use Rattle.std.specs.Prelude as code
 
 -- the text has n values and nothing else, and they stand in front
 pub record Whole (text before after : List ℕ) (n : ℕ) : Type 0 where
@@ -16,7 +16,7 @@ pub record Whole (text before after : List ℕ) (n : ℕ) : Type 0 where
   pub values : values_in (length before) text ≡ some (take n after)
 
 module _ (before after : List ℕ) where
-  fronted : (x : Option (List ℕ)) (n : ℕ) → Count n ≡ count_of x → after ≡ over x before → (n ≤ length after) × (x ≡ some (take n after))
+  fronted : (x : Option (List ℕ)) (n : ℕ) → Some n ≡ count_of x → after ≡ over x before → (n ≤ length after) × (x ≡ some (take n after))
   fronted none n e f = let z : ◌≡◌ {A = ℕ} 0 1 = cc in absurd (omega arith)
   fronted (some vs) n e f =
       let many : length vs ≡ n = cc in (
@@ -24,15 +24,15 @@ module _ (before after : List ℕ) where
         ap some (sym (ap (take n) f ∙ take_at vs (drop (length vs) before) n many)),
       )
 
-none_there : (x : Option (List ℕ)) → Other ≡ count_of x → x ≡ none
+none_there : (x : Option (List ℕ)) → None ≡ count_of x → x ≡ none
 none_there none e = refl
 none_there (some vs) e = cc
 
-module _ (text before : List ℕ) (answer : Values) (after : List ℕ) (h : Taken text before answer after) where
-  pub taken_whole : (n : ℕ) → answer ≡ Count n → Whole text before after n
+module _ (text before : List ℕ) (answer : code.Option ℕ) (after : List ℕ) (h : Taken text before answer after) where
+  pub taken_whole : (n : ℕ) → answer ≡ Some n → Whole text before after n
   taken_whole n e =
       let g = fronted before after (values_in (length before) text) n (sym e ∙ h.answers) h.contents in
       record { inside = g.0; values = g.1 }
 
-  pub taken_other : answer ≡ Other → values_in (length before) text ≡ none
+  pub taken_other : answer ≡ None → values_in (length before) text ≡ none
   taken_other e = none_there (values_in (length before) text) (sym e ∙ h.answers)

@@ -1,4 +1,5 @@
 -- The values of a text, taken one behind the other. Assumes nothing.
+use Rattle.std.specs.Prelude.{Some, None}
 use mathlib.Core.Path.{◌≡◌, refl, sym, ap, ◌∙◌}
 use mathlib.Core.List.{List, [], ◌∷◌, ◌++◌, append_assoc, append-nil}
 use mathlib.Core.Option.{Option, some, none}
@@ -8,9 +9,7 @@ use native.Mathlib.Omega.{arith}
 use lib.ListN.{length, drop, get_or, set, length-append, length-drop, length-set, drop_of_length-le}
 use lib.Seq.{drop-cons, drop-drop, set_at}
 use Rattle.pieces.specs.Numbers.{found, read_at}
-use Rattle.pieces.specs.declared.Number.TheVariants.{Read, Not}
 use Rattle.value_list.specs.Values.{value_in, onto, first, values_in, count_of, over, Taken, Stored}
-use Rattle.value_list.specs.declared.Values.TheVariants.{Count, Other}
 use Rattle.value_list.proofs.OneValue.{not_read, took}
 
 -- ---- what is left of a text
@@ -73,7 +72,7 @@ along_first text k =
     record { met = []; many = refl; few = omega arith; goes = ap (λ (j : ℕ). values_in j text) all ∙ sym (onto_nothing (values_in (k - 0) text)) }
 
 module _ {text : List ℕ} {k n at : ℕ} (g : Along text k n at) where
-  pub along_on : (v end : ℕ) → n < k → Read v end ≡ read_at at (value_in (drop at text)) → Along text k (n + 1) end
+  pub along_on : (v end : ℕ) → n < k → Some (v, end) ≡ read_at at (value_in (drop at text)) → Along text k (n + 1) end
   along_on v end l r =
       let t = took at (value_in (drop at text)) v end r in
       let one : k - n ≡ suc (k - (n + 1)) = omega arith in
@@ -90,24 +89,24 @@ module _ {text : List ℕ} {k n at : ℕ} (g : Along text k n at) where
 
   -- ---- counting
 
-  pub counts_all : length text ≤ at → Count n ≡ count_of (values_in k text)
+  pub counts_all : length text ≤ at → Some n ≡ count_of (values_in k text)
   counts_all h =
       sym (ap count_of (g.goes ∙ ap (λ (l : List ℕ). onto g.met (values_in (k - n) l)) (drop_of_length-le text {i = at} h)
       ∙ ap (onto g.met) (no_values (k - n)))
-      ∙ ap Count (ap length (append-nil g.met) ∙ g.many))
+      ∙ ap Some (ap length (append-nil g.met) ∙ g.many))
 
-  stops : values_in (k - n) (drop at text) ≡ none → Other ≡ count_of (values_in k text)
+  stops : values_in (k - n) (drop at text) ≡ none → None ≡ count_of (values_in k text)
   stops e = sym (ap count_of (g.goes ∙ ap (onto g.met) e))
 
   some_left : at < length text → 0 < length (drop at text)
   some_left h = omega (arith, length-drop at text)
 
-  pub stops_full : at < length text → n ≡ k → Other ≡ count_of (values_in k text)
+  pub stops_full : at < length text → n ≡ k → None ≡ count_of (values_in k text)
   stops_full h e =
       let z : k - n ≡ 0 = omega arith in
       stops (ap (λ (j : ℕ). values_in j (drop at text)) z ∙ no_room (drop at text) (some_left h))
 
-  pub stops_valueless : at < length text → Not ≡ read_at at (value_in (drop at text)) → Other ≡ count_of (values_in k text)
+  pub stops_valueless : at < length text → None ≡ read_at at (value_in (drop at text)) → None ≡ count_of (values_in k text)
   stops_valueless h e = stops (no_value (k - n) (drop at text) (some_left h) (not_read at (value_in (drop at text)) e))
 
 -- ---- storing
@@ -129,7 +128,7 @@ onto_some us vs (some ws) e h =
     sym (append-nil us) ∙ ap (λ (l : List ℕ). us ++ l) (sym (h ws refl)) ∙ s
 
 module _ {text before values : List ℕ} {n at : ℕ} (g : Storing text before values n at) where
-  pub storing_on : (v end : ℕ) → n < length values → Read v end ≡ read_at at (value_in (drop at text)) → Storing text before (set values n v) (n + 1) end
+  pub storing_on : (v end : ℕ) → n < length values → Some (v, end) ≡ read_at at (value_in (drop at text)) → Storing text before (set values n v) (n + 1) end
   unfolding along_on
   storing_on v end l r =
       let room : n < length before = omega (arith, g.same) in
@@ -154,22 +153,22 @@ module _ {text before values : List ℕ} {n at : ℕ} (g : Storing text before v
       let z : length before - n ≡ 0 = omega (arith, g.same) in
       stored (λ ws e. none_roomless (drop at text) ws (ap (λ (k : ℕ). values_in k (drop at text)) (sym z) ∙ e))
 
-  pub stored_all : Not ≡ read_at at (value_in (drop at text)) → Stored text before values
+  pub stored_all : None ≡ read_at at (value_in (drop at text)) → Stored text before values
   stored_all r = stored (λ ws e. none_follows (length before - n) (drop at text) ws (not_read at (value_in (drop at text)) r) e)
 
 -- ---- what was counted is stored
 
-counted_over : (x : Option (List ℕ)) (before after : List ℕ) (n : ℕ) → Count n ≡ count_of x
+counted_over : (x : Option (List ℕ)) (before after : List ℕ) (n : ℕ) → Some n ≡ count_of x
     → ((vs : List ℕ) → x ≡ some vs → after ≡ vs ++ drop (length vs) before) → after ≡ over x before
 counted_over none before after n e h = let z : ◌≡◌ {A = ℕ} 0 1 = cc in absurd (omega arith)
 counted_over (some vs) before after n e h = h vs refl
 
-refused_over : (x : Option (List ℕ)) (before : List ℕ) → Other ≡ count_of x → before ≡ over x before
+refused_over : (x : Option (List ℕ)) (before : List ℕ) → None ≡ count_of x → before ≡ over x before
 refused_over none before e = refl
 refused_over (some vs) before e = let z : ◌≡◌ {A = ℕ} 0 1 = cc in absurd (omega arith)
 
-pub taken_all : (text before after : List ℕ) (n : ℕ) → Count n ≡ count_of (values_in (length before) text) → Stored text before after → Taken text before (Count n) after
+pub taken_all : (text before after : List ℕ) (n : ℕ) → Some n ≡ count_of (values_in (length before) text) → Stored text before after → Taken text before (Some n) after
 taken_all text before after n e h = record { answers = e; contents = counted_over (values_in (length before) text) before after n e h }
 
-pub taken_none : (text before : List ℕ) → Other ≡ count_of (values_in (length before) text) → Taken text before Other before
+pub taken_none : (text before : List ℕ) → None ≡ count_of (values_in (length before) text) → Taken text before None before
 taken_none text before e = record { answers = e; contents = refused_over (values_in (length before) text) before e }

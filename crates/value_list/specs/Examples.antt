@@ -1,9 +1,8 @@
 -- Worked examples of the definitions, each computed by the checker. Assumes nothing.
-use Rattle.std.specs.Prelude.{◌≡◌, refl, [], ◌∷◌}
+use Rattle.std.specs.Prelude.{◌≡◌, refl, [], ◌∷◌, Some, None}
 use Rattle.std.proofs.Math.Option.{some, none}
 use Rattle.pieces.specs.Numbers.{digits_from}
 use Rattle.value_list.specs.Values.{value_in, values_in, count_of, over}
-use Rattle.value_list.specs.declared.Values.TheVariants.{Count, Other}
 
 -- ` 7 010`, nothing, and of no more than one value ` 7 8`; a space behind, two between, no space, another character
 values : values_in 2 (32 ∷ 55 ∷ 32 ∷ 48 ∷ 49 ∷ 48 ∷ []) ∷ values_in 2 [] ∷ values_in 1 (32 ∷ 55 ∷ 32 ∷ 56 ∷ [])
@@ -13,7 +12,7 @@ unfolding values_in value_in digits_from
 values = refl
 
 -- one value, and none
-answers : count_of (some (7 ∷ [])) ∷ count_of none ∷ [] ≡ Count 1 ∷ Other ∷ []
+answers : count_of (some (7 ∷ [])) ∷ count_of none ∷ [] ≡ Some 1 ∷ None ∷ []
 answers = refl
 
 -- with three lent

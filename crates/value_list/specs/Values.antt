@@ -1,9 +1,8 @@
 -- Values as text: a space (32) and digits, over and over. Definitions alone.
-use Rattle.std.specs.Prelude.{◌≡◌, cond, List, [], ◌∷◌, ◌++◌, ℕ, zero, suc, eqb, length, drop}
+use Rattle.std.specs.Prelude.{◌≡◌, cond, List, [], ◌∷◌, ◌++◌, ℕ, zero, suc, eqb, length, drop, Some, None}
 use Rattle.std.proofs.Math.Option.{Option, some, none}
 use Rattle.pieces.specs.Numbers.{Found, found, digits_from, bounded}
-use Rattle.value_list.specs.declared.Values.{Values}
-use Rattle.value_list.specs.declared.Values.TheVariants.{Count, Other}
+use Rattle.std.specs.Prelude as code
 
 -- a number behind a space, if it has a digit at least
 abbrev pub behind : Option Found → Option Found
@@ -33,16 +32,16 @@ values_in (suc k) [] = some []
 values_in (suc k) (c ∷ text) = first (values_in k) (c ∷ text) (value_in (c ∷ text))
 
 -- how many they are
-abbrev pub count_of : Option (List ℕ) → Values
-count_of none = Other
-count_of (some vs) = Count (length vs)
+abbrev pub count_of : Option (List ℕ) → code.Option ℕ
+count_of none = None
+count_of (some vs) = Some (length vs)
 
 -- what is lent then: the values in front of what was there, or all as it was
 abbrev pub over : Option (List ℕ) → List ℕ → List ℕ
 over none before = before
 over (some vs) before = vs ++ drop (length vs) before
 
-pub record Taken (text before : List ℕ) (answer : Values) (after : List ℕ) : Type 0 where
+pub record Taken (text before : List ℕ) (answer : code.Option ℕ) (after : List ℕ) : Type 0 where
   pub answers : answer ≡ count_of (values_in (length before) text)
   pub contents : after ≡ over (values_in (length before) text) before
 

@@ -1,10 +1,9 @@
 -- Worked examples of the definitions, each computed by the checker. Assumes nothing.
-use Rattle.std.specs.Prelude.{◌≡◌, refl, List, [], ◌∷◌, ◌++◌, map, ℕ, replicate}
+use Rattle.std.specs.Prelude.{◌≡◌, refl, List, [], ◌∷◌, ◌++◌, map, ℕ, replicate, Some, None}
 use Prim.Native.Char.{code}
 use Prim.Native.String.{String}
 use Rattle.pieces.specs.Numbers.{decimal_in, digits_from}
 use Rattle.words.specs.Words.{up_to, word_end, words_in, line_of, number_in}
-use Rattle.words.specs.declared.Figure.TheVariants.{Is, Not}
 use Prim.Native.String as string
 
 abbrev text_of : String → List ℕ
@@ -39,12 +38,12 @@ together = refl
 -- ---- numbers
 
 numbers : number_in (text_of "0") ∷ number_in (text_of "830") ∷ number_in (text_of "18446744073709551615") ∷ []
-    ≡ Is 0 ∷ Is 830 ∷ Is 18446744073709551615 ∷ []
+    ≡ Some 0 ∷ Some 830 ∷ Some 18446744073709551615 ∷ []
 unfolding number_in decimal_in digits_from
 numbers = refl
 
 -- no character, needless zeros, signs, another character behind it, 2^64; and "belongs to no word": a carriage return
 no_numbers : map number_in (text_of "" ∷ text_of "00" ∷ text_of "05" ∷ text_of "+5" ∷ text_of "-1" ∷ text_of "8A" ∷ text_of "18446744073709551616"
-    ∷ (text_of "8" ++ return) ∷ []) ≡ replicate 8 Not
+    ∷ (text_of "8" ++ return) ∷ []) ≡ replicate 8 None
 unfolding number_in decimal_in digits_from
 no_numbers = refl

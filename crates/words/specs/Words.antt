@@ -1,9 +1,8 @@
 -- The words of a line, and the number that one is. Definitions alone.
-use Rattle.std.specs.Prelude.{cond, List, [], ◌∷◌, ◌++◌, ℕ, suc, ◌+◌, eqb, length, drop}
+use Rattle.std.specs.Prelude.{cond, List, [], ◌∷◌, ◌++◌, ℕ, suc, ◌+◌, eqb, length, drop, Some, None}
 use Rattle.std.proofs.Math.Option.{Option, some, none}
 use Rattle.pieces.specs.Numbers.{Found, decimal_in}
-use Rattle.words.specs.declared.Figure.{Figure}
-use Rattle.words.specs.declared.Figure.TheVariants.{Is, Not}
+use Rattle.std.specs.Prelude as code
 
 -- how many characters stand in front of the first c; all of them where there is none
 unfoldable pub up_to : ℕ → List ℕ → ℕ
@@ -30,10 +29,10 @@ line_of (word ∷ []) = word
 line_of (word ∷ next ∷ others) = word ++ (32 ∷ line_of (next ∷ others))
 
 -- the number in front of a word counts if it takes all n characters
-abbrev pub whole : ℕ → Option Found → Figure
-whole n none = Not
-whole n (some x) = cond (eqb x.count n) (Is x.value) Not
+abbrev pub whole : ℕ → Option Found → code.Option ℕ
+whole n none = None
+whole n (some x) = cond (eqb x.count n) (Some x.value) None
 
 -- "A NUMBER is decimal with no needless zero", and below 2^64
-unfoldable pub number_in : List ℕ → Figure
+unfoldable pub number_in : List ℕ → code.Option ℕ
 number_in word = whole (length word) (decimal_in word)

@@ -4,13 +4,6 @@
 ghost use Rattle.std.specs.Prelude.{◌≡◌, true, ◌+◌, ◌≤◌, length, drop};
 ghost use Rattle.words.specs.Words.{up_to, word_end, number_in};
 
-// The number that a word is, or that it is none.
-#[derive(Clone, Copy)]
-pub enum Figure {
-    Is(u64),
-    Not,
-}
-
 // Where the word that begins at a position ends: at the next space, or where the line does.
 pub fn word_end(line: &[u8], at: usize) -> usize
     ensures { result ≡ word_end line.now at }
@@ -46,28 +39,21 @@ fn free(text: &[u8], at: usize, c: u8) -> bool
         return false;
     }
     let mut none = true;
-    let mut j = 0;
-    while j < 16 {
+    for j in 0..16 {
         if text[at + j] == c {
             none = false;
         }
-        j += 1;
     }
     none
 }
 
 // The number below 2^64 that the whole word is.
-pub fn number(word: &[u8]) -> Figure
+pub fn number(word: &[u8]) -> Option<u64>
     ensures { result ≡ number_in word.now }
 {
-    let read = parse::decimal_at(word, 0);
-    match read {
-        pieces::Number::Read(v, end) => {
-            if end != word.len() {
-                return Figure::Not;
-            }
-            Figure::Is(v)
-        }
-        pieces::Number::Not => Figure::Not,
+    let (v, end) = parse::decimal_at(word, 0)?;
+    if end != word.len() {
+        return None;
     }
+    Some(v)
 }

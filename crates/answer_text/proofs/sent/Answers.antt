@@ -3,10 +3,10 @@ use Rattle.queue.proofs.Joining.{joins_then}
 use Rattle.answer_text.specs.Texts.{sent_text}
 use Rattle.answer_text.proofs.sent.Goals as goal
 
-pub returns-in-Accepted : goal.returns-in-Accepted
+pub returns-in-Ok : goal.returns-in-Ok
 unfolding sent_text
-returns-in-Accepted c = rw c.in-Accepted.is (joins_then (joins_then c.say-a.ensures c.characters-b.ensures) c.put.ensures)
+returns-in-Ok c = rw c.in-Ok.is (joins_then (joins_then c.say-a.ensures c.characters-b.ensures) c.put.ensures)
 
-pub returns-in-Refused : goal.returns-in-Refused
+pub returns-in-Err : goal.returns-in-Err
 unfolding sent_text
-returns-in-Refused c = rw c.in-Refused.is c.refused.ensures
+returns-in-Err c = rw c.in-Err.is c.refused.ensures

@@ -1,11 +1,9 @@
--- `parse::places_at` meets its contract. The loop's invariant, `Reading`: what is read from at on is what is read from i on behind k
--- places of v. The measure is how many places are left. Assumes nothing.
-use Prim.Native.Nat.{◌-◌}
+-- `parse::places_at` meets its contract. The loop's invariant, `Reading`: what is read from at on is what is read behind k
+-- places of v, and where that is. Assumes nothing.
+use Prim.Native.Nat.{◌+◌, ◌≤◌, max}
+use lib.ListN.{length}
 use Rattle.pieces.proofs.Sixteens.{Reading}
 use Rattle.parse.proofs.places_at.Given as goal
 
 abbrev pub invariant-loop-k : goal.invariant-loop-k
-invariant-loop-k l = Reading l.text l.at l.v l.i l.k
-
-abbrev pub decreases-loop-k : goal.decreases-loop-k
-decreases-loop-k l = 16 - l.k
+invariant-loop-k l = (l.at + l.k ≤ max l.at (length l.text)) × Reading l.text l.at l.v (l.at + l.k) l.k

@@ -1,5 +1,4 @@
--- `queue_text::characters` meets its contract. The loop's invariant: the first bits up to at have joined as characters. The measure is how many are left.
--- Assumes nothing.
+-- `queue_text::characters` meets its contract. The loop's invariant: the first bits up to at have joined as characters. Assumes nothing.
 use mathlib.Core.Path.{◌∙◌}
 use Prim.Native.Nat.{◌+◌}
 use native.Mathlib.Omega.{arith}
@@ -9,31 +8,23 @@ use Rattle.queue_text.proofs.Bitwise.{characters_more, characters_few, character
 use Rattle.queue_text.proofs.characters.Goals as goal
 
 pub loop-at-init : goal.loop-at-init
-loop-at-init c = (omega arith, joins_nothing c.args.q c.args.out.now)
+loop-at-init c = joins_nothing c.args.q c.args.out.now
 
 pub shape_of-out-then-s-at : goal.shape_of-out-then-s-at
-shape_of-out-then-s-at c = joins_length c.loop-at.invariant.1
+shape_of-out-then-s-at c = joins_length c.loop-at.invariant
 
 pub returns-then-s-at : goal.returns-then-s-at
-returns-then-s-at c = characters_few c.args.s.now c.loop-at.at c.args.n c.loop-at.invariant.1 (omega arith) (omega arith)
+returns-then-s-at c = characters_few c.args.s.now c.loop-at.at c.args.n c.loop-at.invariant (omega arith) (omega arith)
 
 pub loop-at-preserved : goal.loop-at-preserved
 loop-at-preserved c =
     let s = c.args.s.now in
-    let l = c.loop-at in (
-      omega arith,
-      characters_more
-          s
-          l.at
-          c.character.result
-          (omega arith)
-          (c.character.ensures ∙ character_there s (l.at + 1) l.at (omega arith) (omega arith))
-          l.invariant.1
-          c.put-r.ensures,
-    )
+    let l = c.loop-at in
+    characters_more s l.at c.character.result (omega arith)
+    (c.character.ensures ∙ character_there s (l.at + 1) l.at (omega arith) (omega arith)) l.invariant c.put-r.ensures
 
 pub shape_of-out : goal.shape_of-out
-shape_of-out c = joins_length c.loop-at.invariant.1
+shape_of-out c = joins_length c.loop-at.invariant
 
 pub returns : goal.returns
-returns c = characters_all c.args.s.now c.loop-at.at c.args.n c.loop-at.invariant.1 (omega arith)
+returns c = characters_all c.args.s.now c.loop-at.at c.args.n c.loop-at.invariant (omega arith)

@@ -1,6 +1,4 @@
--- `queue_text::characters` meets its contract. The loop's invariant: the first bits up to at have joined as characters. The measure is how many are left.
--- Assumes nothing.
-use Prim.Native.Nat.{◌≤◌, ◌-◌}
+-- `queue_text::characters` meets its contract. The loop's invariant: the first bits up to at have joined as characters. Assumes nothing.
 use lib.ListN.{take}
 use Rattle.bits.specs.Bits.{bits_of}
 use Rattle.packing.specs.Packing.{characters}
@@ -8,7 +6,4 @@ use Rattle.queue.specs.Waiting.{Joins}
 use Rattle.queue_text.proofs.characters.Given as goal
 
 abbrev pub invariant-loop-at : goal.invariant-loop-at
-invariant-loop-at l = (l.at ≤ l.n) × Joins (characters (take l.at (bits_of l.s))) l.initial.r l.initial.out l.r l.out
-
-abbrev pub decreases-loop-at : goal.decreases-loop-at
-decreases-loop-at l = l.n - l.at
+invariant-loop-at l = Joins (characters (take l.at (bits_of l.s))) l.initial.r l.initial.out l.r l.out

@@ -1,5 +1,4 @@
--- `telegram_word::fill` meets its contract. The loop's invariant: the first i bytes of the text stand in front, and behind them what was there. The
--- measure is how many bytes are left. Assumes nothing.
+-- `telegram_word::fill` meets its contract. The loop's invariant: the first i bytes of the text stand in front, and behind them what was there. Assumes nothing.
 use mathlib.Core.Path.{◌≡◌, refl, ap, ◌∙◌}
 use mathlib.Core.List.{◌++◌}
 use Prim.Native.Nat.{ℕ, ◌+◌, ◌*◌}
@@ -11,7 +10,7 @@ use Rattle.telegram_word.proofs.fill.Goals as goal
 
 pub loop-i-init : goal.loop-i-init
 unfolding bytes_in
-loop-i-init c = (omega arith, refl, refl)
+loop-i-init c = (refl, refl)
 
 pub overflow_mul-out : goal.overflow_mul-out
 overflow_mul-out c =
@@ -32,16 +31,15 @@ pub loop-i-preserved : goal.loop-i-preserved
 loop-i-preserved c =
     let a = c.args in
     let l = c.loop-i in (
-      omega arith,
-      simp length-set l.invariant.1,
-      rw (l.invariant.2, c.digit.ensures, c.digit-in-loop-i.ensures) (store_again a.text.now a.out.now l.i (omega arith) (omega arith)),
+      simp length-set l.invariant.0,
+      rw (l.invariant.1, c.digit.ensures, c.digit-in-loop-i.ensures) (store_again a.text.now a.out.now l.i (omega arith) (omega arith)),
     )
 
 pub shape_of-out : goal.shape_of-out
-shape_of-out c = c.loop-i.invariant.1
+shape_of-out c = c.loop-i.invariant.0
 
 pub returns : goal.returns
 returns c =
     let a = c.args in
     let e : c.loop-i.i ≡ a.k = omega arith in
-    c.loop-i.invariant.2 ∙ ap (λ (n : ℕ). bytes_in (take (2 * n) a.text.now) ++ drop n a.out.now) e
+    c.loop-i.invariant.1 ∙ ap (λ (n : ℕ). bytes_in (take (2 * n) a.text.now) ++ drop n a.out.now) e

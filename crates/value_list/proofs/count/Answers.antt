@@ -11,8 +11,8 @@ loop-at-init c = along_first c.args.text.now c.args.room
 pub returns-then-n-room : goal.returns-then-n-room
 returns-then-n-room c = stops_full c.loop-at.invariant c.loop-at-test.true c.if-n-room.true
 
-pub returns-in_default : goal.returns-in_default
-returns-in_default c = stops_valueless c.loop-at.invariant c.loop-at-test.true (c.in_default.ensures)
+pub returns-in_err-end : goal.returns-in_err-end
+returns-in_err-end c = rw c.from_residual.ensures (stops_valueless c.loop-at.invariant c.loop-at-test.true c.in_err-end.ensures)
 
 pub overflow_add-n : goal.overflow_add-n
 overflow_add-n c = omega (arith, lt_of_le-ne c.loop-at.invariant.few c.if-n-room.false)
@@ -21,7 +21,7 @@ pub loop-at-smaller : goal.loop-at-smaller
 loop-at-smaller c = omega (arith, lt_of_le-ne c.loop-at.invariant.few c.if-n-room.false)
 
 pub loop-at-preserved : goal.loop-at-preserved
-loop-at-preserved c = along_on c.loop-at.invariant _ _ (lt_of_le-ne c.loop-at.invariant.few c.if-n-room.false) (c.in-Read.ensures)
+loop-at-preserved c = along_on c.loop-at.invariant _ _ (lt_of_le-ne c.loop-at.invariant.few c.if-n-room.false) (c.in_ok-end.ensures)
 
 pub returns : goal.returns
 returns c = counts_all c.loop-at.invariant c.loop-at-test.false

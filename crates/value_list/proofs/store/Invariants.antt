@@ -1,12 +1,7 @@
 -- `value_list::store` meets its contract. The loop's invariant, `Storing`: the values that were met stand in front of what was there, and those
--- from at on follow. The measure is the room that is left. Assumes nothing.
-use Prim.Native.Nat.{◌-◌}
-use lib.ListN.{length}
+-- from at on follow. Assumes nothing.
 use Rattle.value_list.proofs.Taking.{Storing}
 use Rattle.value_list.proofs.store.Given as goal
 
-abbrev pub invariant-loop-n : goal.invariant-loop-n
-invariant-loop-n l = Storing l.text l.initial.values l.values l.n l.at
-
-abbrev pub decreases-loop-n : goal.decreases-loop-n
-decreases-loop-n l = length l.initial.values - l.n
+abbrev pub invariant-loop-value : goal.invariant-loop-value
+invariant-loop-value l = Storing l.text l.initial.values l.values l.value-index l.at

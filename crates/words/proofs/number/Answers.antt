@@ -7,12 +7,12 @@ use Rattle.words.proofs.number.Goals as goal
 pub returns-then-end-word : goal.returns-then-end-word
 returns-then-end-word c =
     let w = c.args.word.now in
-    sym (number_part w _ _ (sym c.decimal_at-read.ensures ∙ c.in-Read.is) (λ s. omega (arith, s)))
+    sym (number_part w _ _ (sym c.decimal_at.ensures ∙ c.in_ok-v.was) (λ s. omega (arith, s)))
 
-pub returns-else-end-word : goal.returns-else-end-word
-returns-else-end-word c =
+pub returns : goal.returns
+returns c =
     let w = c.args.word.now in
-    sym (number_all w _ _ (sym c.decimal_at-read.ensures ∙ c.in-Read.is) (omega arith))
+    sym (number_all w _ _ (sym c.decimal_at.ensures ∙ c.in_ok-v.was) (omega arith))
 
-pub returns-in-Not : goal.returns-in-Not
-returns-in-Not c = sym (number_none c.args.word.now (sym c.decimal_at-read.ensures ∙ c.in-Not.is))
+pub returns-in_err-v : goal.returns-in_err-v
+returns-in_err-v c = rw c.from_residual.ensures (sym (number_none c.args.word.now (sym c.decimal_at.ensures ∙ c.in_err-v.was)))
