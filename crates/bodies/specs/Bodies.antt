@@ -1,11 +1,16 @@
 -- What packets hold that are no list to their end, from the bit x to the bit e: how many values, where the rules behind their heads are kept, and else 0.
 -- Definitions alone.
-use Rattle.std.specs.Prelude.{false, cond, List, ℕ, ◌+◌, ◌*◌, ◌/◌, ◌^◌, eqb, leb}
+use Rattle.std.specs.Prelude.{false, cond, List, ℕ, zero, suc, ◌+◌, ◌*◌, ◌/◌, ◌^◌, eqb, leb, Some, None, Option}
 use Rattle.bits.specs.Ahead.{behind, ahead_at}
 use Rattle.bits.specs.Take.{taken_at, skip_at}
 use Rattle.format.specs.Rules.{radio_from}
 use Rattle.hops.specs.Hops.{level_in}
 use Rattle.lists.specs.Lists.{if_skipped, if_taken, if_seen, conditions_at}
+
+-- what the code has: so many values, where what is counted is not 0
+abbrev pub so_many : ℕ → ℕ → Option ℕ
+so_many v zero = None
+so_many v (suc k) = Some v
 
 -- so many, where it is as long as it is to be
 unfoldable pub sized_by : ℕ → ℕ → ℕ → ℕ

@@ -1,4 +1,5 @@
 -- What packets hold that are no list to their end, as far as it is counted. Assumes nothing.
+use Rattle.std.specs.Prelude.{Some, None, Option, ℕ}
 use mathlib.Core.Bool.{Bool, true, false, cond}
 use mathlib.Core.List.{List}
 use mathlib.Core.Option.{some}
@@ -11,10 +12,6 @@ use lib.ListN.{length}
 use Rattle.bits.specs.Ahead.{behind}
 use Rattle.bits.specs.Bits.{value_of}
 use Rattle.bits.specs.Take.{field_bits, taken_at, skip_at}
-use Rattle.bits.specs.declared.Skipped.{Skipped}
-use Rattle.bits.specs.declared.Skipped.TheVariants.{To, Lacking}
-use Rattle.bits.specs.declared.Taken.{Taken}
-use Rattle.bits.specs.declared.Taken.TheVariants.{Field, Short}
 use Rattle.bits.proofs.Fields.{taken, skipped}
 use Rattle.bits.proofs.Sight.{Ahead}
 use Rattle.format.specs.Fields.{N_ITER, D_GRADIENT, Q_GDIR, G_A, D_LEVELTR, Q_TRACKINIT, D_TRACKINIT, D_SIGNAL, L_TSRarea, D_TSR, L_TSR, Q_FRONT, V_TSR, Q_STOP}
@@ -31,6 +28,7 @@ use Rattle.counted.proofs.Groups.{condition, circuit}
 use Rattle.counted.proofs.Levels.{transition}
 use Rattle.counted.proofs.Listed.{Through, through_then}
 use Rattle.counted.proofs.Tests.{cond_true, some_equal}
+use Rattle.bits.specs.declared.Cursor.{Cursor}
 
 -- ---- as long as it is to be
 
@@ -149,20 +147,20 @@ module _ (s : List ℕ) (n x long : ℕ) where
       (free_listed s restriction (refl, (refl, (refl, (refl, tt)))) k (rw there at ek)) in
       sized_through long (107 + 38 * k) (13 + 4 * k) (passed_so p refl (omega arith)) (omega arith) h
 
-  taken_by : (y : ℕ) → y ≡ x + 102 → (l : Taken) → taken_at s n 5 y ≡ l → 0 < if_taken l (λ k z. sized_by long (107 + 38 * k) (13 + 4 * k))
+  taken_by : (y : ℕ) → y ≡ x + 102 → (l : Option (ℕ × Cursor)) → taken_at s n 5 y ≡ l → 0 < if_taken l (λ k z. sized_by long (107 + 38 * k) (13 + 4 * k))
       → Through s (L_TSRarea ▸ listed restriction) (x + 49) (x + long) 7 (if_taken l (λ k z. sized_by long (107 + 38 * k) (13 + 4 * k)))
-  taken_by y ey (Field k c) q h = restricted_by k (rw (← ey) (taken s n 5 y k c q).value) h
-  taken_by y ey Short q h = absurd (omega arith)
+  taken_by y ey (Some (k, c)) q h = restricted_by k (rw (← ey) (taken s n 5 y k c q).value) h
+  taken_by y ey None q h = absurd (omega arith)
 
   pub restricted_through : 0 < restricted_at s n x long → Through s (L_TSRarea ▸ listed restriction) (x + 49) (x + long) 7 (restricted_at s n x long)
   unfolding restricted_at
   restricted_through = by (skip_at n 102 x) refl
     where
-      by : (l : Skipped) → skip_at n 102 x ≡ l → 0 < if_skipped l (λ y. if_taken (taken_at s n 5 y) (λ k z. sized_by long (107 + 38 * k) (13 + 4 * k)))
+      by : (l : Option Cursor) → skip_at n 102 x ≡ l → 0 < if_skipped l (λ y. if_taken (taken_at s n 5 y) (λ k z. sized_by long (107 + 38 * k) (13 + 4 * k)))
           → Through s (L_TSRarea ▸ listed restriction) (x + 49) (x + long) 7
           (if_skipped l (λ y. if_taken (taken_at s n 5 y) (λ k z. sized_by long (107 + 38 * k) (13 + 4 * k))))
-      by (To c) q h = taken_by c.at (skipped n 102 x c q).past (taken_at s n 5 c.at) refl h
-      by Lacking q h = absurd (omega arith)
+      by (Some c) q h = taken_by c.at (skipped n 102 x c q).past (taken_at s n 5 c.at) refl h
+      by None q h = absurd (omega arith)
 
 -- ---- CTCS-5
 

@@ -21,7 +21,6 @@ use Rattle.bits.specs.Ahead.{behind}
 use Rattle.bits.proofs.Looked.{number_within}
 use Rattle.bits.proofs.Sight.{Ahead}
 use Rattle.passing.proofs.Sorts.{long_is}
-use Rattle.passing.proofs.Sweeping.{Edge, Sweeps, sweeps_stop, sweeps_start}
 use Rattle.telling.proofs.MetresThere.{metres_there, hop}
 use Rattle.telling.proofs.Hopped.{Hopped, hopped_more, telegram_hopped}
 
@@ -30,18 +29,6 @@ pub record Metric (s : List ℕ) (n : ℕ) : Type 0 where
   pub last : ℕ
   pub ends : last + 8 ≡ n
   pub hopped : Hopped s 50 last
-
-pub no_mark : {m : Bool} {s : List ℕ} {n : ℕ} → m ≡ false → m ≡ true → Metric s n
-no_mark f h = let z : ◌≡◌ {A = ℕ} 0 1 = cc in absurd (omega arith)
-
--- where a sweep stops, and where it does not begin, it marks nothing
-pub stopped_at : {s : List ℕ} {n at count a k : ℕ} {o m : Bool} → Edge s n at count → (a ≡ at) × (k ≡ count) × (o ≡ false) × (m ≡ false)
-    → Sweeps s n a k o × (m ≡ true → Metric s n)
-stopped_at i e = (sweeps_stop i (e.0, e.1, e.2), no_mark e.3)
-
-pub stopped_first : (s : List ℕ) (n : ℕ) {a k : ℕ} {o m : Bool} → (a ≡ 0) × (k ≡ 0) × (o ≡ false) × (m ≡ false)
-    → Sweeps s n a k o × (m ≡ true → Metric s n)
-stopped_first s n e = (sweeps_start s n (e.0, e.1, e.2), no_mark e.3)
 
 -- of both marks
 pub both : (a b : Bool) → (a && b) ≡ true → (a ≡ true) × (b ≡ true)

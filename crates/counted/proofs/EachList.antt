@@ -12,8 +12,8 @@ use Rattle.format.specs.Packets.Items.{end, send_times}
 use Rattle.hops.specs.Hops.{hop, hop_if, link_in, level_in, leveled, transition_in, choice_in, condition_in, position_in, circuit_in}
 use Rattle.hops.specs.declared.Hop.{Hop}
 use Rattle.hops.proofs.Bounds.{level_small}
-use Rattle.lists.specs.Lists.{list_at, links_at, levels_at, choices_at, conditions_at, circuits_at}
-use Rattle.wide_lists.specs.WideLists.{apart_at, speed_at, position_at, speeds_at, positions_at}
+use Rattle.lists.specs.Lists.{list_at, links_at, levels_at, choices_at, conditions_at, circuits_at, apart_at}
+use Rattle.wide_lists.specs.WideLists.{speed_at, position_at, speeds_at, positions_at}
 use Rattle.counted.proofs.Groups.{link, link_passed, condition, condition_passed, position, position_passed, circuit, circuit_passed}
 use Rattle.counted.proofs.Levels.{transition, transition_passed, choice, choice_passed}
 use Rattle.counted.proofs.Listed.{Through, Narrow, by_window, list_through, apart_through, list_behind}

@@ -1,5 +1,6 @@
 -- Lists that are counted keep their rules: a group, N_ITER, and as many groups more, of which each is passed where it is counted and lies in the
 -- bytes. That it does is known only when the list has ended, so that it is shown first that positions only grow. Assumes nothing.
+use Rattle.std.specs.Prelude.{Some, None, Option, ℕ}
 use mathlib.Core.Bool.{true, false}
 use mathlib.Core.List.{List}
 use mathlib.Core.Option.{some}
@@ -12,10 +13,6 @@ use lib.ListN.{length}
 use Rattle.bits.specs.Ahead.{behind, ahead_at}
 use Rattle.bits.specs.Bits.{value_of}
 use Rattle.bits.specs.Take.{field_bits, taken_at, skip_at}
-use Rattle.bits.specs.declared.Skipped.{Skipped}
-use Rattle.bits.specs.declared.Skipped.TheVariants.{To, Lacking}
-use Rattle.bits.specs.declared.Taken.{Taken}
-use Rattle.bits.specs.declared.Taken.TheVariants.{Field, Short}
 use Rattle.bits.proofs.Fields.{taken, skipped}
 use Rattle.bits.proofs.Sight.{Ahead, sighted}
 use Rattle.format.specs.Fields.{N_ITER}
@@ -23,12 +20,12 @@ use Rattle.format.specs.Packets.{Items, ◌⧺◌, times}
 use Rattle.format.specs.Packets.Items.{end, send_times}
 use Rattle.format.specs.Rules.{next}
 use Rattle.hops.specs.declared.Hop.{Hop}
-use Rattle.lists.specs.Lists.{if_skipped, if_taken, if_seen, hop_seen, group_at, others_at, behind_first, list_at, packet_list}
+use Rattle.lists.specs.Lists.{if_skipped, if_taken, if_seen, hop_seen, group_at, others_at, behind_first, list_at, packet_list, apart_at}
 use Rattle.passing.proofs.Passing.{Passed, passed_so, passed_then, passed_one}
 use Rattle.passing.proofs.Passing.Passed.{stay}
-use Rattle.wide_lists.specs.WideLists.{apart_at}
 use Rattle.counted.proofs.Groups.{Windowed}
 use Rattle.counted.proofs.Tests.{cond_true, cond_false}
+use Rattle.bits.specs.declared.Cursor.{Cursor}
 
 -- from the items t at the bit x all is passed to the bit e: with v values before, they are so many in all
 pub record Through (s : List ℕ) (t : Items) (x e v total : ℕ) : Type 0 where
@@ -49,10 +46,10 @@ pub by_window : (s : List ℕ) (n least : ℕ) (f : ℕ → Hop) (t : Items) →
 unfolding group_at
 by_window s n least f t p x = by (ahead_at s n least x) refl
   where
-    by : (l : Taken) → ahead_at s n least x ≡ l → 0 < (hop_seen l f).bits → x + (hop_seen l f).bits ≤ 8 * length s → (r : Items)
+    by : (l : Option (ℕ × Cursor)) → ahead_at s n least x ≡ l → 0 < (hop_seen l f).bits → x + (hop_seen l f).bits ≤ 8 * length s → (r : Items)
         → Passed s (t ⧺ r) x (hop_seen l f).values r (x + (hop_seen l f).bits)
-    by (Field w c) e h room r = p x w (sighted s n least x w c e).ahead h room r
-    by Short e h room r = absurd (omega arith)
+    by (Some (w, c)) e h room r = p x w (sighted s n least x w c e).ahead h room r
+    by None e h room r = absurd (omega arith)
 
 -- ---- the groups behind N_ITER
 
@@ -118,10 +115,10 @@ module _ (s : List ℕ) (f : ℕ → Hop) (t : Items) (p : Windowed s f t) (narr
   unfolding list_at
   list_through = by (ahead_at s n (least + 5) x) refl
     where
-      by : (l : Taken) → ahead_at s n (least + 5) x ≡ l → 0 < if_seen l (λ w. behind_first g e v x (f w) (behind w (f w).bits 5))
+      by : (l : Option (ℕ × Cursor)) → ahead_at s n (least + 5) x ≡ l → 0 < if_seen l (λ w. behind_first g e v x (f w) (behind w (f w).bits 5))
           → Through s (t ⧺ send_times N_ITER t end) x e v (if_seen l (λ w. behind_first g e v x (f w) (behind w (f w).bits 5)))
-      by (Field w c) q h = first_through (sighted s n (least + 5) x w c q).ahead h
-      by Short q h = absurd (omega arith)
+      by (Some (w, c)) q h = first_through (sighted s n (least + 5) x w c q).ahead h
+      by None q h = absurd (omega arith)
 
 -- ---- a list whose N_ITER is taken by itself
 
@@ -133,15 +130,15 @@ module _ (s : List ℕ) (g : ℕ → Hop) (t : Items) (p : Grouped s g t) (n e :
       let z : eqb b 0 ≡ false = cond_false (eqb b 0) _ h in
       rw z (by (eqb-false b 0 z) (taken_at s n 5 (x + b)) refl (rw z at h))
     where
-      by : ((g x).bits ≡ 0 → ⊥) → (l : Taken) → taken_at s n 5 (x + (g x).bits) ≡ l → 0 < if_taken l (λ k y. others_at g e k y (v + (g x).values + 1))
+      by : ((g x).bits ≡ 0 → ⊥) → (l : Option (ℕ × Cursor)) → taken_at s n 5 (x + (g x).bits) ≡ l → 0 < if_taken l (λ k y. others_at g e k y (v + (g x).values + 1))
           → Through s (t ⧺ send_times N_ITER t end) x e v (if_taken l (λ k y. others_at g e k y (v + (g x).values + 1)))
-      by wide (Field k c) q h =
+      by wide (Some (k, c)) q h =
           let i = taken s n 5 (x + (g x).bits) k c q in
           let more : 0 < others_at g e k (x + (g x).bits + 5) (v + (g x).values + 1) = rw i.past at h in
           let inside = others_grow g e k (x + (g x).bits + 5) (v + (g x).values + 1) more in
           let front = p x (omega arith) (omega arith) (send_times N_ITER t end) in
           rw i.past (through_then front (iter_through s g t p e room i.value more))
-      by wide Short q h = absurd (omega arith)
+      by wide None q h = absurd (omega arith)
 
 -- ---- so many bits behind a packet's beginning
 
@@ -152,6 +149,6 @@ module _ {s : List ℕ} {t : Items} {e v : ℕ} (n head : ℕ) (list : ℕ → �
       let z : leb n 830 ≡ true = cond_true (leb n 830) _ h in
       rw z (by (skip_at n head x) refl (rw z at h))
     where
-      by : (k : Skipped) → skip_at n head x ≡ k → 0 < if_skipped k list → Through s t (x + head) e v (if_skipped k list)
-      by (To c) q m = let there = (skipped n head x c q).past in rw there (i (rw there at m))
-      by Lacking q m = absurd (omega arith)
+      by : (k : Option Cursor) → skip_at n head x ≡ k → 0 < if_skipped k list → Through s t (x + head) e v (if_skipped k list)
+      by (Some c) q m = let there = (skipped n head x c q).past in rw there (i (rw there at m))
+      by None q m = absurd (omega arith)

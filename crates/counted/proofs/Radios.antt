@@ -1,4 +1,5 @@
 -- ETCS-42 and ETCS-131, whose NID_RADIO is looked at in two halves. Assumes nothing.
+use Rattle.std.specs.Prelude.{Some, None, Option, ℕ}
 use mathlib.Core.Bool.{true, false, cond}
 use mathlib.Core.List.{List}
 use mathlib.Core.Path.{◌≡◌, refl}
@@ -9,10 +10,6 @@ use lib.Dec.{eqb}
 use Rattle.bits.specs.Ahead.{behind, ahead_at}
 use Rattle.bits.specs.Bits.{value_of}
 use Rattle.bits.specs.Take.{field_bits, skip_at}
-use Rattle.bits.specs.declared.Skipped.{Skipped}
-use Rattle.bits.specs.declared.Skipped.TheVariants.{To, Lacking}
-use Rattle.bits.specs.declared.Taken.{Taken}
-use Rattle.bits.specs.declared.Taken.TheVariants.{Field, Short}
 use Rattle.bits.proofs.Fields.{skipped}
 use Rattle.bits.proofs.Sight.{IsAhead, sighted, fields_joined}
 use Rattle.format.specs.Fields.{Q_RBC, NID_C, NID_RBC, NID_RADIO, Q_SLEEPSESSION, D_RBCTR}
@@ -25,6 +22,7 @@ use Rattle.passing.proofs.Sorts.{front_is}
 use Rattle.bodies.specs.Bodies.{radio_at}
 use Rattle.counted.proofs.Listed.{Through}
 use Rattle.counted.proofs.Tests.{cond_true}
+use Rattle.bits.specs.declared.Cursor.{Cursor}
 
 -- a number of the wanted length that keeps its rule, so many bits behind x
 record Dialled (s : List ℕ) (y v total : ℕ) : Type 0 where
@@ -48,23 +46,23 @@ module _ (s : List ℕ) (n v : ℕ) where
       rw (first, second) at (fields_joined s y 32 32 (omega arith)) in
       record { digits = rw whole at e; counts = rw e }
 
-  second_half : {y a z : ℕ} → IsAhead s n 32 y a z → (t : Taken) → ahead_at s n 32 z ≡ t → 0 < if_seen t (low a) → Dialled s y v (if_seen t (low a))
-  second_half {z = z} i (Field b c) q h = halves i (sighted s n 32 z b c q) h
-  second_half i Short q h = absurd (omega arith)
+  second_half : {y a z : ℕ} → IsAhead s n 32 y a z → (t : Option (ℕ × Cursor)) → ahead_at s n 32 z ≡ t → 0 < if_seen t (low a) → Dialled s y v (if_seen t (low a))
+  second_half {z = z} i (Some (b, c)) q h = halves i (sighted s n 32 z b c q) h
+  second_half i None q h = absurd (omega arith)
 
   abbrev high : ℕ → ℕ → ℕ
   high a z = if_seen (ahead_at s n 32 z) (low a)
 
-  first_half : (y : ℕ) (t : Taken) → ahead_at s n 32 y ≡ t → 0 < if_taken t high → Dialled s y v (if_taken t high)
-  first_half y (Field a c) q h = second_half (sighted s n 32 y a c q) (ahead_at s n 32 c.at) refl h
-  first_half y Short q h = absurd (omega arith)
+  first_half : (y : ℕ) (t : Option (ℕ × Cursor)) → ahead_at s n 32 y ≡ t → 0 < if_taken t high → Dialled s y v (if_taken t high)
+  first_half y (Some (a, c)) q h = second_half (sighted s n 32 y a c q) (ahead_at s n 32 c.at) refl h
+  first_half y None q h = absurd (omega arith)
 
-  skipped_to : (x place : ℕ) (t : Skipped) → skip_at n place x ≡ t → 0 < if_skipped t (λ y. if_taken (ahead_at s n 32 y) high)
+  skipped_to : (x place : ℕ) (t : Option Cursor) → skip_at n place x ≡ t → 0 < if_skipped t (λ y. if_taken (ahead_at s n 32 y) high)
       → Dialled s (x + place) v (if_skipped t (λ y. if_taken (ahead_at s n 32 y) high))
-  skipped_to x place (To c) q h =
+  skipped_to x place (Some c) q h =
       let there = (skipped n place x c q).past in
       rw there (first_half (x + place) (ahead_at s n 32 (x + place)) refl (rw there at h))
-  skipped_to x place Lacking q h = absurd (omega arith)
+  skipped_to x place None q h = absurd (omega arith)
 
   radio_long : (x place long wanted : ℕ) → 0 < radio_at s n x place long wanted v → eqb long wanted ≡ true
   unfolding radio_at

@@ -1,5 +1,6 @@
 -- **A packet that is counted keeps every rule but the tenth**, with as many values as are counted, and ends by the bit n; and one that is marked is in
 -- metres, or has no scale. Assumes nothing.
+use Rattle.std.specs.Prelude.{Some, None, Option}
 use mathlib.Core.Bool.{Bool, true, false, cond}
 use mathlib.Core.List.{List}
 use mathlib.Core.Path.{◌≡◌, refl, sym, ◌∙◌}
@@ -11,8 +12,6 @@ use lib.ListN.{length}
 use Rattle.bits.specs.Ahead.{behind}
 use Rattle.bits.specs.Bits.{value_of}
 use Rattle.bits.specs.Take.{field_bits, skip_at}
-use Rattle.bits.specs.declared.Skipped.{Skipped}
-use Rattle.bits.specs.declared.Skipped.TheVariants.{To, Lacking}
 use Rattle.bits.proofs.Fields.{skipped}
 use Rattle.bits.proofs.Looked.{number_within}
 use Rattle.bits.proofs.Sight.{Ahead}
@@ -39,6 +38,7 @@ use Rattle.counted.proofs.EachKind.{Sends, Scaled, found_5, found_21, found_27, 
 use Rattle.counted.proofs.Listed.{Through}
 use Rattle.counted.proofs.Radios.{session_through, handover_through}
 use Rattle.counted.proofs.Texts.{texts_through}
+use Rattle.bits.specs.declared.Cursor.{Cursor}
 
 -- where this counts it, a packet of so many bits at the bit x keeps its rules, and is in metres or has no scale if this says so
 pub record Counted (s : List ℕ) (x long : ℕ) (h : Span) : Type 0 where
@@ -197,11 +197,11 @@ pub by_inside : (P : Span → Type 0) (s : List ℕ) (n x long w : ℕ) → P (p
 unfolding packet_at
 by_inside P s n x long w none some = by_below P n 830 _ _ (λ low. by low (skip_at n long x) refl) none
   where
-    by : n ≤ 830 → (t : Skipped) → skip_at n long x ≡ t
+    by : n ≤ 830 → (t : Option Cursor) → skip_at n long x ≡ t
         → P (span_skipped t (λ e. cond (leb (behind w 8 2) 2) (kind_at s n e x long w (behind w 0 8)) (plain 0)))
-    by low (To c) q =
+    by low (Some c) q =
         let i = skipped n long x c q in rw i.past (by_below P (behind w 8 2) 2 _ _ (λ dir. some low i.within dir) none)
-    by low Lacking q = none
+    by low None q = none
 
 -- **the packet at the bit x, by the window w there**
 pub packet_kept : (s : List ℕ) (n : ℕ) {x w : ℕ} → Ahead s x w → n ≤ 8 * length s → (long : ℕ) → 0 < (packet_at s n x long w).values

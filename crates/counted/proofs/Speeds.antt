@@ -1,4 +1,5 @@
 -- The groups of ETCS-27, each with a list of its own, of which each NC_DIFF is tested. Assumes nothing.
+use Rattle.std.specs.Prelude.{Some, None, Option, ℕ}
 use mathlib.Core.Bool.{true, ◌&&◌}
 use mathlib.Core.List.{List}
 use mathlib.Core.Path.{◌≡◌, refl, sym, ◌∙◌}
@@ -10,8 +11,6 @@ use lib.ListN.{length}
 use Rattle.bits.specs.Ahead.{behind, ahead_at}
 use Rattle.bits.specs.Bits.{value_of}
 use Rattle.bits.specs.Take.{field_bits, taken_at}
-use Rattle.bits.specs.declared.Taken.{Taken}
-use Rattle.bits.specs.declared.Taken.TheVariants.{Field, Short}
 use Rattle.bits.proofs.Fields.{taken}
 use Rattle.bits.proofs.Sight.{Ahead, sighted}
 use Rattle.format.specs.Fields.{N_ITER, NC_DIFF, V_DIFF, D_STATIC, V_STATIC, Q_FRONT}
@@ -24,6 +23,7 @@ use Rattle.lists.specs.Lists.{hop_seen}
 use Rattle.passing.proofs.Passing.{Passed, passed_so, passed_then, passed_one, ruled_times, free_run}
 use Rattle.wide_lists.specs.WideLists.{where_taken, differing, speed_with, speed_at}
 use Rattle.counted.proofs.Tests.{both_true, hop_true}
+use Rattle.bits.specs.declared.Cursor.{Cursor}
 
 module _ (s : List ℕ) (n : ℕ) where
   -- the first of them, and the others 11 bits behind it
@@ -31,14 +31,14 @@ module _ (s : List ℕ) (n : ℕ) where
   unfolding differing
   differing_first k x = by (taken_at s n 4 x) refl
     where
-      by : (t : Taken) → taken_at s n 4 x ≡ t → where_taken t (λ v y. leb v 2 && differing s n k (y + 7)) ≡ true
+      by : (t : Option (ℕ × Cursor)) → taken_at s n 4 x ≡ t → where_taken t (λ v y. leb v 2 && differing s n k (y + 7)) ≡ true
           → (value_of (field_bits s 4 x) ≤ 2) × (differing s n k (x + 11) ≡ true)
-      by (Field v c) q d =
+      by (Some (v, c)) q d =
           let f = taken s n 4 x v c q in
           let both = both_true (leb v 2) (differing s n k (c.at + 7)) d in
           let there : c.at + 7 ≡ x + 11 = omega (arith, f.past) in
           (rw f.value at (leb-true v 2 both.0), rw there at both.1)
-      by Short q d = let z : ◌≡◌ {A = ℕ} 0 1 = cc in absurd (omega arith)
+      by None q d = let z : ◌≡◌ {A = ℕ} 0 1 = cc in absurd (omega arith)
 
   -- each of so many NC_DIFF is at most 2
   differing_kept : (k x : ℕ) → differing s n k x ≡ true → (j : ℕ) → j < k → value_of (field_bits s 4 (x + j * 11)) ≤ 2
@@ -84,6 +84,6 @@ module _ (s : List ℕ) (n x : ℕ) where
   unfolding speed_at
   speed_passed = by (ahead_at s n 28 x) refl
     where
-      by : (t : Taken) → ahead_at s n 28 x ≡ t → Passes (hop_seen t (λ w. speed_with s n (behind w 23 5) (x + 28)))
-      by (Field w c) e some room r = with_passed (sighted s n 28 x w c e).ahead some room r
-      by Short e some room r = absurd (omega arith)
+      by : (t : Option (ℕ × Cursor)) → ahead_at s n 28 x ≡ t → Passes (hop_seen t (λ w. speed_with s n (behind w 23 5) (x + 28)))
+      by (Some (w, c)) e some room r = with_passed (sighted s n 28 x w c e).ahead some room r
+      by None e some room r = absurd (omega arith)

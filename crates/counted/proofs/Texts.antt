@@ -1,4 +1,5 @@
 -- ETCS-72: two levels, and as many X_TEXT as L_TEXT says. Assumes nothing.
+use Rattle.std.specs.Prelude.{Some, None, Option, ℕ}
 use mathlib.Core.Bool.{true, false, cond}
 use mathlib.Core.List.{List}
 use mathlib.Core.Path.{◌≡◌, refl, sym, ◌∙◌}
@@ -10,10 +11,6 @@ use lib.ListN.{length}
 use Rattle.bits.specs.Ahead.{behind, ahead_at}
 use Rattle.bits.specs.Bits.{value_of}
 use Rattle.bits.specs.Take.{field_bits, skip_at}
-use Rattle.bits.specs.declared.Skipped.{Skipped}
-use Rattle.bits.specs.declared.Skipped.TheVariants.{To, Lacking}
-use Rattle.bits.specs.declared.Taken.{Taken}
-use Rattle.bits.specs.declared.Taken.TheVariants.{Field, Short}
 use Rattle.bits.proofs.Fields.{skipped}
 use Rattle.bits.proofs.Sight.{Ahead, sighted}
 use Rattle.format.specs.Fields.{NID_STM, Q_TEXTCLASS, Q_TEXTDISPLAY, D_TEXTDISPLAY, M_MODETEXTDISPLAY, M_LEVELTEXTDISPLAY, L_TEXTDISPLAY, T_TEXTDISPLAY, Q_TEXTCONFIRM, L_TEXT, X_TEXT}
@@ -29,6 +26,7 @@ use Rattle.counted.proofs.Bodies.{sized_long, sized_through}
 use Rattle.counted.proofs.Levels.{level_passed}
 use Rattle.counted.proofs.Listed.{Through, through_then}
 use Rattle.counted.proofs.Tests.{cond_true, cond_false}
+use Rattle.bits.specs.declared.Cursor.{Cursor}
 
 -- behind its second level, from that on, and from its first on
 
@@ -82,10 +80,10 @@ module _ (s : List ℕ) (n e : ℕ) (room : e ≤ 8 * length s) where
   unfolding second_level
   second_through v z = by (ahead_at s n 3 z) refl
     where
-      by : (t : Taken) → ahead_at s n 3 z ≡ t → 0 < if_seen t (λ w. text_in e z (v + 3) (level_in 5 w) w)
+      by : (t : Option (ℕ × Cursor)) → ahead_at s n 3 z ≡ t → 0 < if_seen t (λ w. text_in e z (v + 3) (level_in 5 w) w)
           → Through s ending z e v (if_seen t (λ w. text_in e z (v + 3) (level_in 5 w) w))
-      by (Field w c) q h = text_through (sighted s n 3 z w c q).ahead v h
-      by Short q h = absurd (omega arith)
+      by (Some (w, c)) q h = text_through (sighted s n 3 z w c q).ahead v h
+      by None q h = absurd (omega arith)
 
   -- from the first level on, with eight values before it
   module _ (y : ℕ) {w : ℕ} (a : Ahead s y w) where
@@ -109,9 +107,9 @@ module _ (s : List ℕ) (n e : ℕ) (room : e ≤ 8 * length s) where
         let c : 12 + b / 8 ≡ 8 + (4 + b / 8) = omega arith in
         through_then p (rw c at i)
 
-    gone_to : (eqb b 0 ≡ false) → (t : Skipped) → skip_at n (b + 29) y ≡ t → 0 < if_skipped t later → Through s beginning y e 8 (if_skipped t later)
-    gone_to some (To c) q h = between some c.at (skipped n (b + 29) y c q).past h
-    gone_to some Lacking q h = absurd (omega arith)
+    gone_to : (eqb b 0 ≡ false) → (t : Option Cursor) → skip_at n (b + 29) y ≡ t → 0 < if_skipped t later → Through s beginning y e 8 (if_skipped t later)
+    gone_to some (Some c) q h = between some c.at (skipped n (b + 29) y c q).past h
+    gone_to some None q h = absurd (omega arith)
 
     seen_first : 0 < cond (eqb b 0) 0 (if_skipped (skip_at n (b + 29) y) later)
         → Through s beginning y e 8 (cond (eqb b 0) 0 (if_skipped (skip_at n (b + 29) y) later))
@@ -123,12 +121,12 @@ module _ (s : List ℕ) (n e : ℕ) (room : e ≤ 8 * length s) where
   unfolding first_level
   first_through y = by (ahead_at s n 3 y) refl
     where
-      by : (t : Taken) → ahead_at s n 3 y ≡ t
+      by : (t : Option (ℕ × Cursor)) → ahead_at s n 3 y ≡ t
           → 0 < if_seen t (λ w. cond (eqb (level_in 5 w) 0) 0 (if_skipped (skip_at n (level_in 5 w + 29) y) (second_level s n e (15 + level_in 5 w / 8))))
           → Through s beginning y e 8
           (if_seen t (λ w. cond (eqb (level_in 5 w) 0) 0 (if_skipped (skip_at n (level_in 5 w + 29) y) (second_level s n e (15 + level_in 5 w / 8)))))
-      by (Field w c) q h = seen_first y (sighted s n 3 y w c q).ahead h
-      by Short q h = absurd (omega arith)
+      by (Some (w, c)) q h = seen_first y (sighted s n 3 y w c q).ahead h
+      by None q h = absurd (omega arith)
 
   -- behind its Q_SCALE
   module _ {x w : ℕ} (a : Ahead s x w) where
@@ -148,7 +146,7 @@ module _ (s : List ℕ) (n e : ℕ) (room : e ≤ 8 * length s) where
         let low : leb (behind w 25 2) 1 ≡ true = cond_true (leb (behind w 25 2) 1) _ h in
         rw low (by (leb-true (behind w 25 2) 1 low) (skip_at n 47 x) refl (rw low at h))
       where
-        by : behind w 25 2 ≤ 1 → (t : Skipped) → skip_at n 47 x ≡ t → 0 < if_skipped t (first_level s n e)
+        by : behind w 25 2 ≤ 1 → (t : Option Cursor) → skip_at n 47 x ≡ t → 0 < if_skipped t (first_level s n e)
             → Through s texts (x + 25) e 4 (if_skipped t (first_level s n e))
-        by low (To c) q h = from_class low c.at (skipped n 47 x c q).past h
-        by low Lacking q h = absurd (omega arith)
+        by low (Some c) q h = from_class low c.at (skipped n 47 x c q).past h
+        by low None q h = absurd (omega arith)

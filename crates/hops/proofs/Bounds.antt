@@ -5,12 +5,8 @@ use native.Mathlib.Nat.{mod-lt}
 use native.Mathlib.Omega.{arith}
 use lib.Dec.{eqb, leb}
 use Rattle.bits.specs.Ahead.{behind}
-use Rattle.hops.specs.Hops.{hop, hop_if, link_in, level_in, leveled, transition_in, choice_in, condition_in, position_in, circuit_in}
+use Rattle.hops.specs.Hops.{Small, hop, hop_if, link_in, level_in, leveled, transition_in, choice_in, condition_in, position_in, circuit_in}
 use Rattle.hops.specs.declared.Hop.{Hop}
-
--- no more bits and values than the largest group of all has: 28 and 31 times 11, and 4 and 31 times 2
-abbrev pub Small : Hop → Type 0
-Small h = (h.bits ≤ 369) × (h.values ≤ 66)
 
 none_or : (b : Bool) (h : Hop) → Small h → Small (hop_if b h)
 none_or true h k = k

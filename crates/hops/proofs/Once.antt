@@ -2,7 +2,6 @@
 use mathlib.Core.Path.{refl, sym, ◌∙◌}
 use Rattle.hops.specs.contracts as promises
 use Rattle.bits.proofs.Once.{OneOutcome}
-use Rattle.hops.proofs.none
 use Rattle.hops.proofs.link
 use Rattle.hops.proofs.level
 use Rattle.hops.proofs.transition
@@ -10,9 +9,6 @@ use Rattle.hops.proofs.choice
 use Rattle.hops.proofs.condition
 use Rattle.hops.proofs.position
 use Rattle.hops.proofs.circuit
-
-pub none_once : OneOutcome promises.none.ended none.Reads.Post
-none_once κs args r t u v p q = (p ∙ sym q, refl)
 
 pub link_once : OneOutcome promises.link.ended link.Reads.Post
 link_once κs args r t u v p q = (p ∙ sym q, refl)

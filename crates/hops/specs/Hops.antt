@@ -1,6 +1,6 @@
 -- The groups of lists: how many bits and values each has, by the window at its first bit. docs/RULES.md, "Packets", has their fields; behind a field's width stands
 -- its range, where it has one. Definitions alone.
-use Rattle.std.specs.Prelude.{Bool, true, false, cond, ◌&&◌, ℕ, ◌+◌, ◌*◌, ◌/◌, eqb, leb}
+use Rattle.std.specs.Prelude.{Bool, true, false, cond, ◌&&◌, ℕ, ◌+◌, ◌*◌, ◌/◌, ◌≤◌, zero, suc, eqb, leb, Some, None, Option}
 use Rattle.bits.specs.Ahead.{behind}
 use Rattle.hops.specs.declared.Hop.{Hop}
 
@@ -10,6 +10,15 @@ hop b v = record { bits = b; values = v }
 -- one that breaks a rule, or is not there
 abbrev pub none : Hop
 none = hop 0 0
+
+-- what the code has of one: nothing where it has no bit
+abbrev pub kept : Hop → Option Hop
+kept h = cond (eqb h.bits 0) None (Some h)
+
+-- and of a number of bits or values, of which 0 stands for none
+abbrev pub counted : ℕ → Option ℕ
+counted zero = None
+counted (suc k) = Some (suc k)
 
 -- one that keeps its rules where this holds
 abbrev pub hop_if : Bool → Hop → Hop
@@ -46,3 +55,7 @@ position_in w = hop (51 + 10 * behind w 0 1) (5 + behind w 0 1)
 -- CTCS **1**: NID_SIGNAL 4 (0..7), NID_FREQUENCY 5 (0..12), L_SECTION 15
 unfoldable pub circuit_in : ℕ → Hop
 circuit_in w = hop_if (leb (behind w 0 4) 7 && leb (behind w 4 5) 12) (hop 24 3)
+
+-- no more bits and values than the largest group of all has, one of ETCS-27: 28 and 31 times 11, and 4 and 31 times 2
+abbrev pub Small : Hop → Type 0
+Small h = (h.bits ≤ 369) × (h.values ≤ 66)

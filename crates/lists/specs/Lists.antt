@@ -1,31 +1,28 @@
 -- Lists: "A list is N_ITER 5 and that many further groups (k)". How many values a packet has that ends in one. Definitions alone.
-use Rattle.std.specs.Prelude.{cond, List, ℕ, zero, suc, ◌+◌, ◌*◌, ◌≤◌, eqb, leb}
+use Rattle.std.specs.Prelude.{cond, List, ℕ, zero, suc, ◌+◌, ◌*◌, ◌≤◌, eqb, leb, Some, None, Option}
 use Rattle.bits.specs.Ahead.{behind, ahead_at}
-use Rattle.bits.specs.Take.{skip_at}
-use Rattle.bits.specs.declared.Taken.{Taken}
-use Rattle.bits.specs.declared.Taken.TheVariants.{Field, Short}
-use Rattle.bits.specs.declared.Skipped.{Skipped}
-use Rattle.bits.specs.declared.Skipped.TheVariants.{To, Lacking}
+use Rattle.bits.specs.Take.{taken_at, skip_at}
 use Rattle.hops.specs.Hops.{none, link_in, transition_in, choice_in, condition_in, circuit_in}
 use Rattle.hops.specs.declared.Hop.{Hop}
+use Rattle.bits.specs.declared.Cursor.{Cursor}
 
 -- ---- where there is something to go by
 
-abbrev pub if_skipped : Skipped → (ℕ → ℕ) → ℕ
-if_skipped (To c) f = f c.at
-if_skipped Lacking f = 0
+abbrev pub if_skipped : Option Cursor → (ℕ → ℕ) → ℕ
+if_skipped (Some c) f = f c.at
+if_skipped None f = 0
 
-abbrev pub if_taken : Taken → (ℕ → ℕ → ℕ) → ℕ
-if_taken (Field v c) f = f v c.at
-if_taken Short f = 0
+abbrev pub if_taken : Option (ℕ × Cursor) → (ℕ → ℕ → ℕ) → ℕ
+if_taken (Some (v, c)) f = f v c.at
+if_taken None f = 0
 
-abbrev pub if_seen : Taken → (ℕ → ℕ) → ℕ
-if_seen (Field w c) f = f w
-if_seen Short f = 0
+abbrev pub if_seen : Option (ℕ × Cursor) → (ℕ → ℕ) → ℕ
+if_seen (Some (w, c)) f = f w
+if_seen None f = 0
 
-abbrev pub hop_seen : Taken → (ℕ → Hop) → Hop
-hop_seen (Field w c) f = f w
-hop_seen Short f = none
+abbrev pub hop_seen : Option (ℕ × Cursor) → (ℕ → Hop) → Hop
+hop_seen (Some (w, c)) f = f w
+hop_seen None f = none
 
 -- ---- groups
 
@@ -53,6 +50,11 @@ behind_first g e v x h k = cond (eqb h.bits 0) 0 (others_at g e k (x + h.bits + 
 unfoldable pub list_at : List ℕ → ℕ → ℕ → (ℕ → Hop) → ℕ → ℕ → ℕ → ℕ
 list_at s n least f e v x =
     if_seen (ahead_at s n (least + 5) x) (λ w. behind_first (group_at s n least f) e v x (f w) (behind w (f w).bits 5))
+
+-- N_ITER taken by itself
+unfoldable pub apart_at : (ℕ → Hop) → List ℕ → ℕ → ℕ → ℕ → ℕ → ℕ
+apart_at g s n e v x =
+    cond (eqb (g x).bits 0) 0 (if_taken (taken_at s n 5 (x + (g x).bits)) (λ k y. others_at g e k y (v + (g x).values + 1)))
 
 -- ---- packets, from the bit x to the bit e: so many bits and values stand before the list
 

@@ -1,5 +1,6 @@
 -- Where a telegram stands by what is to be sent, with no rows: `Stood`, which fields that are passed keep. Between two packets it is the machine's
 -- `Scans`, and at the end mark it gives the answer. Assumes nothing.
+use Rattle.std.specs.Prelude.{Ok}
 use mathlib.Core.Bool.{true}
 use mathlib.Core.List.{List, [], ◌∷◌, ◌++◌}
 use mathlib.Core.Logic.{◌⊎◌, inl, inr}
@@ -20,7 +21,6 @@ use Rattle.format.specs.Rules.{State, Context, Earlier, begun, context, step, fi
 use Rattle.format.specs.Rules.Level.{in_packet}
 use Rattle.format.specs.Rules.Next.{go, over}
 use Rattle.format.specs.Table.{row_at, words}
-use Rattle.format.specs.declared.Answer.TheVariants.{Accepted}
 use Rattle.bits.specs.declared.Cursor.{Cursor}
 use Rattle.states.specs.Reader.{answer_of}
 use Rattle.format.specs.Telegrams.{Entry, entry, bits, bits_in, values, from_bits, drive, whole, read}
@@ -199,7 +199,7 @@ module _ {s : List ℕ} {n : ℕ} {x pig : ℕ} {l : List Earlier} {count : ℕ}
       ∙ pushes_ended i.entries (entry (between x pig l) v ∷ []) (between x pig l) (drop (x + 8) (telegram_bits s n)))
       ∙ rw none_left_over
 
-  pub stood_over : Accepted (count + 1) ≡ answer_of (read paper (telegram_bits s n))
+  pub stood_over : Ok (count + 1) ≡ answer_of (read paper (telegram_bits s n))
   stood_over = rw (reads_all, values_more i.entries (entry (between x pig l) (value_of (field_bits s 8 x))), i.counts)
 
 -- ---- and the machine

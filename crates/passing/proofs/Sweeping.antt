@@ -1,4 +1,5 @@
 -- What the loop over whole packets goes by: the telegram stands at a packet's edge. Assumes nothing.
+use Rattle.std.specs.Prelude.{Ok, Some}
 use mathlib.Core.Bool.{Bool, true, false}
 use mathlib.Core.Logic.{◌⊎◌, inl, inr, ⊎_elim}
 use mathlib.Core.List.{List}
@@ -14,12 +15,10 @@ use Rattle.bits.proofs.Sight.{Ahead}
 use Rattle.format.specs.Rules.{Earlier, clash, collides_among, paper}
 use Rattle.format.specs.Table.{words}
 use Rattle.format.specs.Telegrams.{read}
-use Rattle.format.specs.declared.Answer.TheVariants.{Accepted}
 use Rattle.states.specs.Heads.{Fronted, pig_in, front_of}
 use Rattle.states.specs.Lookback.{packets_before}
 use Rattle.states.specs.Machine.{fresh_at}
 use Rattle.states.specs.Reader.{answer_of}
-use Rattle.states.specs.declared.Begun.TheVariants.{To}
 use Rattle.states.specs.declared.State as machine
 use Rattle.states.proofs.Front.{front_started}
 use Rattle.states.proofs.Fronting.{scans_fronted}
@@ -37,7 +36,7 @@ pub record Edge (s : List ℕ) (n at count : ℕ) : Type 0 where
 
 -- ---- behind the header
 
-module _ (s : List ℕ) (n : ℕ) {after : machine.State} (e : front_of s n ≡ To after) where
+module _ (s : List ℕ) (n : ℕ) {after : machine.State} (e : front_of s n ≡ Some after) where
   fronted : Fronted s n after
   fronted = rw e at (front_started s n)
 
@@ -84,7 +83,7 @@ module _ {s : List ℕ} {n at count : ℕ} (i : Edge s n at count) where
         }
 
     -- at the end mark
-    pub edge_over : at + 8 ≡ n → behind w 0 8 ≡ 255 → Accepted (count + 1) ≡ answer_of (read paper (telegram_bits s n))
+    pub edge_over : at + 8 ≡ n → behind w 0 8 ≡ 255 → Ok (count + 1) ≡ answer_of (read paper (telegram_bits s n))
     edge_over e m = stood_over i.stood (front_is a 8 (omega arith) (omega (arith, i.stood.wide)) ∙ m) e
 
   pub edge_scans : {rows : List ℕ} {pig : ℕ} → rows ≡ words → pig ≡ value_of (field_bits s 3 9)
@@ -101,15 +100,8 @@ module _ {s : List ℕ} {n at count : ℕ} (i : Edge s n at count) where
 
 -- over: the telegram is accepted with so many values; else not even the header is passed, or it stands at a packet's edge
 abbrev pub Sweeps : List ℕ → ℕ → ℕ → ℕ → Bool → Type 0
-Sweeps s n at count true = Accepted count ≡ answer_of (read paper (telegram_bits s n))
+Sweeps s n at count true = Ok count ≡ answer_of (read paper (telegram_bits s n))
 Sweeps s n at count false = ((at ≡ 0) × (count ≡ 0)) ⊎ Edge s n at count
-
--- it stops where it stands, or before the header
-pub sweeps_stop : {s : List ℕ} {n at count a k : ℕ} {o : Bool} → Edge s n at count → (a ≡ at) × (k ≡ count) × (o ≡ false) → Sweeps s n a k o
-sweeps_stop i e = rw (e.0, e.1, e.2) (inr i)
-
-pub sweeps_start : (s : List ℕ) (n : ℕ) {a k : ℕ} {o : Bool} → (a ≡ 0) × (k ≡ 0) × (o ≡ false) → Sweeps s n a k o
-sweeps_start s n e = rw e.2 (inl (e.0, e.1))
 
 module _ {s : List ℕ} {n at count : ℕ} (w : Sweeps s n at count false) where
   -- from an edge on

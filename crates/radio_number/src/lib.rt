@@ -4,16 +4,17 @@
 ghost use Rattle.std.specs.Prelude.{◌≡◌, false};
 ghost use Rattle.format.specs.Rules.{radio_from};
 
-// Sixteen places: digits, then only F.
+// The place that is no digit.
+const F: u64 = 15;
+
+// Sixteen places, the highest first: digits, then only F.
 pub fn allowed(v: u64) -> bool
     ensures { result ≡ radio_from 16 false v }
 {
-    let mut k: usize = 16;
     let mut full = false;
-    while 0 < k {
-        k -= 1;
-        let d = (v >> (4 * k)) % 16;
-        if d == 15 {
+    for i in 0..16usize {
+        let d = (v >> (4 * (15 - i))) % 16;
+        if d == F {
             full = true;
         } else {
             if 9 < d {

@@ -1,14 +1,30 @@
 -- Packets by the tests that the code makes, one law for each way out. Assumes nothing.
-use mathlib.Core.Path.{◌≡◌}
+use Rattle.std.specs.Prelude.{Some, None}
+use mathlib.Core.Path.{◌≡◌, refl, ap, ◌∙◌}
 use mathlib.Core.List.{List}
-use Prim.Native.Nat.{ℕ, ◌+◌, ◌≤◌, ◌<◌}
+use Prim.Native.Nat.{ℕ, zero, suc, ◌+◌, ◌≤◌, ◌<◌}
 use borrow.Author.Tests.{le-leb, lt-leb, eq-eqb, ne_eqb}
 use lib.Dec.{eqb}
 use Rattle.bits.specs.Ahead.{behind}
 use Rattle.bits.specs.Take.{skip_at}
 use Rattle.bits.specs.declared.Cursor.{Cursor}
-use Rattle.bits.specs.declared.Skipped.TheVariants.{To, Lacking}
-use Rattle.spans.specs.Spans.{span, plain, scaled_by, user_at, national_at, kind_at, packet_at}
+use Rattle.hops.specs.Hops.{counted}
+use Rattle.bodies.specs.Bodies.{so_many, sized_by, radio_at}
+use Rattle.bodies.proofs.Tests.{sized_many, radio_many}
+use Rattle.spans.specs.Spans.{or_zero, span, plain, scaled_by, user_at, national_at, kind_at, packet_at}
+
+-- ---- a number of values that the code has
+
+pub zero_counted : (v : ℕ) → or_zero (counted v) ≡ v
+zero_counted zero = refl
+zero_counted (suc v) = refl
+
+pub zero_sized : (v : ℕ) → 1 ≤ v → (long wanted : ℕ) → or_zero (so_many v (sized_by long wanted 1)) ≡ sized_by long wanted v
+zero_sized v some long wanted = ap or_zero (sized_many v some long wanted) ∙ zero_counted _
+
+pub zero_radio : (v : ℕ) → 1 ≤ v → (s : List ℕ) (n x place long wanted : ℕ)
+    → or_zero (so_many v (radio_at s n x place long wanted 1)) ≡ radio_at s n x place long wanted v
+zero_radio v some s n x place long wanted = ap or_zero (radio_many v some s n x place long wanted) ∙ zero_counted _
 
 -- ---- a scale
 
@@ -43,11 +59,11 @@ module _ (s : List ℕ) (n x long w : ℕ) where
   packet_over h = rw (lt-leb n 830 h)
 
   module _ (few : n ≤ 830) where
-    pub packet_lacking : skip_at n long x ≡ Lacking → plain 0 ≡ packet_at s n x long w
+    pub packet_lacking : skip_at n long x ≡ None → plain 0 ≡ packet_at s n x long w
     unfolding packet_at
     packet_lacking h = rw (le-leb n 830 few, h)
 
-    module _ {c : Cursor} (at : skip_at n long x ≡ To c) (d : ℕ) (ed : d ≡ behind w 8 2) where
+    module _ {c : Cursor} (at : skip_at n long x ≡ Some c) (d : ℕ) (ed : d ≡ behind w 8 2) where
       pub packet_turned : 2 < d → plain 0 ≡ packet_at s n x long w
       unfolding packet_at
       packet_turned h = rw (le-leb n 830 few, at, ← ed, lt-leb d 2 h)

@@ -1,16 +1,20 @@
 -- Whole packets by their kinds: how many values one has that keeps every rule but the tenth, and whether it is in metres or has no scale. Definitions alone.
-use Rattle.std.specs.Prelude.{Bool, true, cond, List, ℕ, ◌+◌, ◌*◌, eqb, leb}
+use Rattle.std.specs.Prelude.{Bool, true, cond, List, ℕ, ◌+◌, ◌*◌, eqb, leb, Some, None, Option}
 use Rattle.bits.specs.Ahead.{behind}
 use Rattle.bits.specs.Take.{skip_at}
-use Rattle.bits.specs.declared.Skipped.{Skipped}
-use Rattle.bits.specs.declared.Skipped.TheVariants.{To, Lacking}
 use Rattle.lists.specs.Lists.{links_at, levels_at, choices_at, circuits_at}
 use Rattle.wide_lists.specs.WideLists.{speeds_at, positions_at}
 use Rattle.bodies.specs.Bodies.{sized_by, radio_at, track_at, restricted_at, stopping_at, text_at}
 use Rattle.spans.specs.declared.Span.{Span}
+use Rattle.bits.specs.declared.Cursor.{Cursor}
 
 abbrev pub span : ℕ → Bool → Span
 span v m = record { values = v; metric = m }
+
+-- 0 for none
+abbrev pub or_zero : Option ℕ → ℕ
+or_zero (Some v) = v
+or_zero None = 0
 
 -- one that has no scale, or is not counted
 abbrev pub plain : ℕ → Span
@@ -56,9 +60,9 @@ kind_at s n e x long w id =
     (cond (eqb id 137) (plain (sized_by long 24 4))
     (cond (eqb id 254) (plain (sized_by long 23 3)) (plain 0))))))))))))))
 
-abbrev pub span_skipped : Skipped → (ℕ → Span) → Span
-span_skipped (To c) f = f c.at
-span_skipped Lacking f = plain 0
+abbrev pub span_skipped : Option Cursor → (ℕ → Span) → Span
+span_skipped (Some c) f = f c.at
+span_skipped None f = plain 0
 
 -- its Q_DIR is 0..2, and it ends by the bit n
 unfoldable pub packet_at : List ℕ → ℕ → ℕ → ℕ → ℕ → Span

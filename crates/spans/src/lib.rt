@@ -5,17 +5,19 @@
 #![tactic(auto)]
 
 ghost use Rattle.std.specs.Prelude.{◌≡◌, true, ◌+◌, ◌*◌, ◌/◌, ◌%◌, ◌^◌, ◌≤◌};
+ghost use Rattle.hops.specs.Hops.{counted};
 ghost use Rattle.bodies.specs.Bodies.{sized_by};
-ghost use Rattle.spans.specs.Spans.{plain, scaled_by, user_at, national_at, kind_at, packet_at};
+ghost use Rattle.spans.specs.Spans.{or_zero, plain, scaled_by, user_at, national_at, kind_at, packet_at};
 
-use bits::{Cursor, Skipped, behind};
+use bits::{Cursor, behind};
 use bodies::{restricted, sized, stopping, text, track, with_radio};
 use packets::{
     Circuits, Conditional, Default, Gradient, Level, Linking, National, Position, Restriction,
     Reversing, Session, Shunting, Sight, Speed, Stopping, Text, Track, Transition, Turnout,
 };
 
-// A packet: how many values it has, none where it is not counted, and whether it is in metres or has no scale.
+// A packet: how many values it has, and whether it is in metres or has no scale. It has 0 where it is not counted, and no Option: `packet` promises both so (packet_at),
+// and the theorems of `counted` and `passing` are about that number. metric is no tag of it, but what Q_SCALE says.
 #[derive(Clone, Copy)]
 pub struct Span {
     pub values: usize,
@@ -27,18 +29,18 @@ pub fn packet(s: &[u8], n: usize, start: Cursor, long: usize, w: u64) -> Span
     ensures { result ≡ packet_at s.now n start.at long w }
 {
     if 830 < n {
-        return plain(0);
+        return plain(None);
     }
-    let Skipped::To(end) = start.skip(n, long) else {
-        return plain(0);
+    let Some(end) = start.skip(n, long) else {
+        return plain(None);
     };
     if 2 < behind(w, 8, 2) {
-        return plain(0);
+        return plain(None);
     }
     kind(s, n, start, end.at, long, w)
 }
 
-// By its NID_PACKET.
+// By its NID_PACKET. The six stand apart and are no struct: nearly each arm hands them on one by one, and with `self.` before each the table of kinds no longer reads as one.
 fn kind(s: &[u8], n: usize, start: Cursor, end: usize, long: usize, w: u64) -> Span
     requires { (n ≤ 830) × (long ≤ 830) }
     ensures { result ≡ kind_at s.now n end start.at long w (w * 2 ^ 0 % 2 ^ 64 / 2 ^ 56) }
@@ -59,37 +61,37 @@ fn kind(s: &[u8], n: usize, start: Cursor, end: usize, long: usize, w: u64) -> S
         Shunting::ID => plain(sized(long, 24, 4)),
         Sight::ID => plain(sized(long, 24, 4)),
         Default::ID => plain(sized(long, 23, 3)),
-        _ => plain(0),
+        _ => plain(None),
     }
 }
 
 // A packet that has no scale, or is not counted.
-fn plain(values: usize) -> Span
-    ensures { result ≡ plain values }
+fn plain(values: Option<usize>) -> Span
+    ensures { result ≡ plain (or_zero values) }
 {
     Span {
-        values,
+        values: values.unwrap_or(0),
         metric: true,
     }
 }
 
 // A packet with this Q_SCALE, of which 1 stands for metres.
-fn scaled(q: u64, values: usize) -> Span
-    ensures { result ≡ scaled_by q values }
+fn scaled(q: u64, values: Option<usize>) -> Span
+    ensures { result ≡ scaled_by q (or_zero values) }
 {
     if 2 < q {
-        return plain(0);
+        return plain(None);
     }
     Span {
-        values,
+        values: values.unwrap_or(0),
         metric: q == 1,
     }
 }
 
 // ETCS-21: D_GRADIENT 15, Q_GDIR 1 and G_A 8, and so many groups of these more, of which no rule reads anything.
-fn gradients(long: usize, times: u64) -> usize
+fn gradients(long: usize, times: u64) -> Option<usize>
     requires { times ≤ 31 }
-    ensures { result ≡ sized_by long (54 + 24 * times) (8 + 3 * times) }
+    ensures { result ≡ counted (sized_by long (54 + 24 * times) (8 + 3 * times)) }
 {
     let k = times as usize;
     sized(long, 54 + 24 * k, 8 + 3 * k)
@@ -100,10 +102,10 @@ fn national(s: &[u8], n: usize, start: Cursor, end: usize, long: usize, w: u64) 
     ensures { result ≡ national_at s.now n end start.at long w }
 {
     if behind(w, 32, 2) != behind(w, 8, 2) {
-        return plain(0);
+        return plain(None);
     }
     if long != behind(w, 34, 13) as usize + 23 {
-        return plain(0);
+        return plain(None);
     }
     user(s, n, start, end, long, w)
 }
@@ -119,6 +121,6 @@ fn user(s: &[u8], n: usize, start: Cursor, end: usize, long: usize, w: u64) -> S
         Reversing::ID => scaled(q, sized(long, 79, 9)),
         Turnout::ID => scaled(q, sized(long, 71, 9)),
         Stopping::ID => plain(stopping(long, behind(w, 47, 1))),
-        _ => plain(0),
+        _ => plain(None),
     }
 }

@@ -16,15 +16,15 @@ returns-in_default c =
 pub returns-then-behind-gt2 : goal.returns-then-behind-gt2
 returns-then-behind-gt2 c =
     let a = c.args in
-    c.plain-then-behind-gt2.ensures ∙ packet_turned a.s.now a.n a.start.at a.long a.w (omega arith) (sym c.skip.ensures ∙ c.in-To.is) c.behind.result c.behind.ensures (omega arith)
+    c.plain-then-behind-gt2.ensures ∙ packet_turned a.s.now a.n a.start.at a.long a.w (omega arith) (sym c.skip.ensures ∙ c.in-Some.is) c.behind.result c.behind.ensures (omega arith)
 
 pub kind-requires : goal.kind-requires
 kind-requires c =
     let a = c.args in
-    let p = skipped a.n a.long a.start.at _ (sym c.skip.ensures ∙ c.in-To.is) in
+    let p = skipped a.n a.long a.start.at _ (sym c.skip.ensures ∙ c.in-Some.is) in
     (omega arith, omega (arith, p.within))
 
 pub returns : goal.returns
 returns c =
     let a = c.args in
-    c.kind.ensures ∙ packet_kind a.s.now a.n a.start.at a.long a.w (omega arith) (sym c.skip.ensures ∙ c.in-To.is) c.behind.result c.behind.ensures (omega arith)
+    c.kind.ensures ∙ packet_kind a.s.now a.n a.start.at a.long a.w (omega arith) (sym c.skip.ensures ∙ c.in-Some.is) c.behind.result c.behind.ensures (omega arith)
