@@ -1,17 +1,20 @@
 -- A list by what it is a list of: the same by how its groups are laid out. Assumes nothing.
 use mathlib.Core.Bool.{Bool, true, false, cond, ◌&&◌}
 use mathlib.Core.List.{List}
-use mathlib.Core.Path.{◌≡◌, refl, ap}
-use Prim.Native.Nat.{ℕ, zero, suc, ◌+◌, ◌*◌, ◌<◌}
+use mathlib.Core.Path.{◌≡◌, refl, ap, ◌∙◌}
+use Prim.Native.Nat.{ℕ, zero, suc, ◌+◌, ◌*◌, ◌≤◌, ◌<◌}
 use native.Mathlib.Omega.{arith}
-use lib.Dec.{eqb}
+use borrow.Author.Tests.{le-leb}
+use lib.Dec.{eqb, leb}
+use lib.ListN.{length}
 use Rattle.bits.proofs.Looked.{number_lt}
 use Rattle.told.specs.Metres.{number_in, in_metres, each_put, list_put}
 use Rattle.told.specs.Decides.{whole_in, each_whole, list_whole}
-use Rattle.metre_lists.specs.Groups.{whole_of, end_of, put_of, laid, Sized, run_whole, run_put, run_end}
+use Rattle.metre_lists.specs.Groups.{roomed, whole_of, end_of, put_of, laid, Sized, run_whole, run_put, run_end}
+use Rattle.metre_lists.proofs.Reading.{room}
 use Rattle.metre_lists.specs.declared.Group.{Group}
 use Rattle.metre_lists.specs.declared.Group.TheVariants.{Links, Slopes, Profiles, Sections}
-use Rattle.metre_lists.specs.declared.Layout.{Layout}
+use Rattle.metre_lists.specs.declared.Run.{Run}
 
 -- ---- groups that ask, put and end alike
 
@@ -34,7 +37,7 @@ module _ (s : List ℕ) (t u : ℕ → List ℕ → List ℕ) (p r : ℕ → ℕ
 -- ---- the four with one distance
 
 -- a layout that is that of a list
-pub record Lays (g : Group) (l : Layout) : Type 0 where
+pub record Lays (g : Group) (l : Run) : Type 0 where
   pub sized : Sized l
   pub whole : (s : List ℕ) (q y : ℕ) → run_whole l s q y ≡ whole_of g s q y
   pub put : (s : List ℕ) (q y : ℕ) (out : List ℕ) → run_put l s q y out ≡ put_of g s q y out
@@ -85,7 +88,7 @@ sections_laid =
       ends = λ s y. omega arith;
     }
 
-module _ {g : Group} {l : Layout} (h : Lays g l) (s : List ℕ) (q x : ℕ) where
+module _ {g : Group} {l : Run} (h : Lays g l) (s : List ℕ) (q x : ℕ) where
   pub whole_laid : list_whole s (run_whole l s q) (run_end l s) x ≡ list_whole s (whole_of g s q) (end_of g s) x
   whole_laid = whole_alike s (run_whole l s q) (whole_of g s q) (run_end l s) (end_of g s) (h.whole s q) (h.ends s) x
 
@@ -94,11 +97,23 @@ module _ {g : Group} {l : Layout} (h : Lays g l) (s : List ℕ) (q x : ℕ) wher
 
 -- ---- by the tests
 
-module _ (c puts whole : Bool) (told out : List ℕ) where
-  -- there is no list
-  pub none_asked : c ≡ false → (false ≡ (c && cond puts true whole)) × (out ≡ cond (c && puts) told out)
-  none_asked h = rw h (refl, refl)
+module _ (s out : List ℕ) (q x : ℕ) (puts : Bool) where
+  -- the answer, and what is lent afterwards
+  abbrev Listed : Group → Bool → List ℕ → Type 0
+  Listed g r after =
+      (r ≡ (roomed s out && leb x 900 && cond puts true (list_whole s (whole_of g s q) (end_of g s) x)))
+      × (after ≡ cond (roomed s out && leb x 900 && puts) (list_put s (put_of g s q) (end_of g s) x out) out)
 
-  pub is_asked : c ≡ true → {r : Bool} {after : List ℕ} → r ≡ cond puts true whole → after ≡ cond puts told out
-      → (r ≡ (c && cond puts true whole)) × (after ≡ cond (c && puts) told out)
-  is_asked h e f = rw h (e, f)
+  -- there is no list
+  pub unlisted : (g : Group) → (roomed s out && leb x 900) ≡ false → Listed g false out
+  unlisted g h = rw h (refl, refl)
+
+  module _ (long : 8 ≤ length s) (wide : 4 ≤ length out) (early : x ≤ 900) where
+    pub listed : {g h : Group} → h ≡ g → {r : Bool} {after : List ℕ} → r ≡ cond puts true (list_whole s (whole_of g s q) (end_of g s) x)
+        → after ≡ cond puts (list_put s (put_of g s q) (end_of g s) x out) out → Listed h r after
+    listed i e f = rw (i, room s out long wide, le-leb x 900 early) (e, f)
+
+    pub run_listed : {g h : Group} {l : Run} → Lays g l → h ≡ g → {r : Bool} {after : List ℕ} → r ≡ cond puts true (list_whole s (run_whole l s q) (run_end l s) x)
+        → after ≡ cond puts (list_put s (run_put l s q) (run_end l s) x out) out → Listed h r after
+    run_listed l i e f =
+        listed i (e ∙ ap (cond puts true) (whole_laid l s q x)) (f ∙ ap (λ (o : List ℕ). cond puts o out) (put_laid l s q x out))

@@ -1,11 +1,13 @@
 -- Numbers in front of a window and behind its first bits, and what is told of one and of two. Assumes nothing.
+use Rattle.std.specs.Prelude.{Option, Some, None}
 use mathlib.Core.Bool.{Bool, true, false, cond, ◌&&◌}
 use mathlib.Core.List.{List}
-use mathlib.Core.Path.{◌≡◌, refl, ap, ◌∙◌}
+use mathlib.Core.Path.{◌≡◌, refl, sym, ap, ◌∙◌}
 use Prim.Native.Nat.{ℕ, ◌+◌, ◌-◌, ◌*◌, ◌/◌, ◌%◌, ◌^◌, ◌≤◌, ◌<◌}
 use native.Mathlib.Nat.{mod-lt, mod-eq_of_lt, mul-le-mul}
 use native.Mathlib.Omega.{arith}
-use borrow.Author.Tests.{le-leb, lt-leb}
+use borrow.Author.Tests.{eq-eqb, ne_eqb, le-leb, lt-leb}
+use lib.Dec.{eqb}
 use lib.ListN.{length}
 use lib.Pow.{pow_mono, shr_lt}
 use Rattle.bits.specs.Ahead.{behind, seen_at}
@@ -40,6 +42,19 @@ module _ (s : List ℕ) (x : ℕ) (long : 8 ≤ length s) {w : ℕ} (e : w ≡ s
 
   pub moved : (o b : ℕ) → o + b ≤ 57 → behind (w * 2 ^ o % 2 ^ 64) 0 b ≡ number_in s b (x + o)
   moved o b h = moved_front w o b ∙ there o b h
+
+-- ---- one of two numbers, by a number that is read
+
+module _ (v j : ℕ) {r d : ℕ} (m n : ℕ) (e : r ≡ v) where
+  pub then_picked : r ≡ j → d ≡ m → d ≡ cond (eqb v j) m n
+  then_picked h i = i ∙ rw (eq-eqb v j (sym e ∙ h)) refl
+
+  pub else_picked : (r ≡ j → ⊥) → d ≡ n → d ≡ cond (eqb v j) m n
+  else_picked h i = i ∙ rw (ne_eqb v j (λ f. h (e ∙ f))) refl
+
+pub picked_low : (c : Bool) (m n : ℕ) → cond c m n ≤ m + n
+picked_low true m n = omega arith
+picked_low false m n = omega arith
 
 -- ---- two distances, put or tested
 
@@ -85,24 +100,16 @@ product step v {b} h l few =
     mul-le-mul h (let m : v ≤ 31 = omega (arith, l, low) in m)
 
 -- how many bits a group has that is told, and none of one that is not
-pub some_bits : (c : Bool) (n : ℕ) → c ≡ true → n ≡ cond c n 0
+pub some_bits : (c : Bool) (n : ℕ) → c ≡ true → Some n ≡ cond c (Some n) None
 some_bits c n h = rw h
 
-pub no_bits : (c : Bool) (n : ℕ) → c ≡ false → 0 ≡ cond c n 0
+pub no_bits : (c : Bool) (n : ℕ) → c ≡ false → None ≡ cond c (Some n) None
 no_bits c n h = rw h
 
--- by how many bits it has
-pub some_told : (c : Bool) (n : ℕ) {r : ℕ} → r ≡ cond c n 0 → (r ≡ 0 → ⊥) → (c ≡ true) × (r ≡ n)
-some_told true n h i = (refl, h)
-some_told false n h i = absurd (i h)
-
-pub none_told : (c : Bool) (n : ℕ) {r : ℕ} → r ≡ cond c n 0 → r ≡ 0 → 0 < n → c ≡ false
-none_told true n h i l = absurd (omega arith)
-none_told false n h i l = refl
-
-pub some_of : (c : Bool) (m n : ℕ) → 0 < m → 0 < n → 0 < cond c m n
-some_of true m n h i = h
-some_of false m n h i = i
+-- by the answer
+pub some_told : (c : Bool) (n : ℕ) {m : ℕ} {r : Option ℕ} → r ≡ cond c (Some n) None → r ≡ Some m → (c ≡ true) × (m ≡ n)
+some_told true n h i = (refl, cc)
+some_told false n h i = absurd cc
 
 -- ---- room
 

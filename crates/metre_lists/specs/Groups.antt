@@ -5,7 +5,7 @@ use Rattle.told.specs.Metres.{number_in, in_metres, link_end, profile_end, level
 use Rattle.told.specs.Decides.{whole_in, level_whole, two_whole, place_whole, circuit_whole}
 use Rattle.metre_lists.specs.declared.Group.{Group}
 use Rattle.metre_lists.specs.declared.Group.TheVariants.{Links, Slopes, Profiles, Levels, Conditions, Places, Sections, Restrictions}
-use Rattle.metre_lists.specs.declared.Layout.{Layout}
+use Rattle.metre_lists.specs.declared.Run.{Run}
 
 -- there are as many bytes as a telegram has at least, and room for a field
 abbrev pub roomed : List ℕ → List ℕ → Bool
@@ -46,23 +46,23 @@ put_of Restrictions s q y out = two_put s q y out
 
 -- ---- a group with one distance, by how it is laid out
 
-abbrev pub laid : ℕ → ℕ → ℕ → ℕ → ℕ → Layout
+abbrev pub laid : ℕ → ℕ → ℕ → ℕ → ℕ → Run
 laid a b f w k = record { at = a; bits = b; flag = f; wide = w; step = k }
 
 -- a window holds what is read of it
-abbrev pub Sized : Layout → Type 0
+abbrev pub Sized : Run → Type 0
 Sized g = (g.at ≤ 15) × (0 < g.bits) × (g.bits ≤ 50) × (g.flag ≤ 23) × (0 < g.wide) × (g.wide ≤ 5) × (g.step ≤ 11)
 
-abbrev pub run_whole : Layout → List ℕ → ℕ → ℕ → Bool
+abbrev pub run_whole : Run → List ℕ → ℕ → ℕ → Bool
 run_whole g s q y = whole_in s q 15 (y + g.at)
 
-abbrev pub run_put : Layout → List ℕ → ℕ → ℕ → List ℕ → List ℕ
+abbrev pub run_put : Run → List ℕ → ℕ → ℕ → List ℕ → List ℕ
 run_put g s q y out = in_metres s q 15 (y + g.at) out
 
-abbrev pub run_bits : Layout → List ℕ → ℕ → ℕ
+abbrev pub run_bits : Run → List ℕ → ℕ → ℕ
 run_bits g s y = g.bits + g.step * number_in s g.wide (y + g.flag)
 
-abbrev pub run_end : Layout → List ℕ → ℕ → ℕ
+abbrev pub run_end : Run → List ℕ → ℕ → ℕ
 run_end g s y = y + run_bits g s y
 
 -- ---- how many bits the others have

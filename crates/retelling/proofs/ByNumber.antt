@@ -1,4 +1,5 @@
 -- What is put for a packet by its numbers: by its Q_SCALE, its NID_PACKET and its NID_XUSER. Assumes nothing.
+use Rattle.std.specs.Prelude.{Some, None}
 use mathlib.Core.Bool.{Bool, true, false, cond, ◌&&◌}
 use mathlib.Core.List.{List}
 use mathlib.Core.Logic.{◌⊎◌, inl, inr}
@@ -12,21 +13,20 @@ use Rattle.metre_lists.specs.Groups.{roomed}
 use Rattle.distance.specs.Distance.{number_of, scaled_by}
 use Rattle.distance.specs.declared.Scale.{Scale}
 use Rattle.distance.specs.declared.Scale.TheVariants.{Tenths, Metres, Tens}
-use Rattle.distance.specs.declared.Scaled.TheVariants.{By, Not}
 use Rattle.told.specs.Metres.{number_in, metres_said, links_put, slopes_put, profiles_put, places_put, levels_put, conditions_put, text_put, handover_put, circuits_put, restrictions_put, reverse_put, turnout_put}
 use Rattle.told.specs.Decides.{links_whole, slopes_whole, profiles_whole, places_whole, levels_whole, conditions_whole, words_whole, handover_whole, circuits_whole, restrictions_whole, reverse_whole, turnout_whole, scaled_put, user_put, kind_put}
 use Rattle.retelling.specs.Retold.{told_by}
 
 -- ---- by a Q_SCALE
 
-pub scale_number : (q : ℕ) (k : Scale) → scaled_by q ≡ By k → q ≡ number_of k
+pub scale_number : (q : ℕ) (k : Scale) → scaled_by q ≡ Some k → q ≡ number_of k
 unfolding scaled_by
 scale_number zero k e = let i : Tenths ≡ k = cc in rw (← i)
 scale_number (suc zero) k e = let i : Metres ≡ k = cc in rw (← i)
 scale_number (suc (suc zero)) k e = let i : Tens ≡ k = cc in rw (← i)
 scale_number (suc (suc (suc n))) k e = let z : ◌≡◌ {A = ℕ} 0 1 = cc in absurd (omega arith)
 
-pub scale_not : (q : ℕ) → scaled_by q ≡ Not → 2 < q
+pub scale_not : (q : ℕ) → scaled_by q ≡ None → 2 < q
 unfolding scaled_by
 scale_not zero e = let z : ◌≡◌ {A = ℕ} 0 1 = cc in absurd (omega arith)
 scale_not (suc zero) e = let z : ◌≡◌ {A = ℕ} 0 1 = cc in absurd (omega arith)
@@ -38,11 +38,9 @@ pub scale_near : (c : Bool) → cond c 47 23 + 2 ≤ 57
 scale_near true = omega arith
 scale_near false = omega arith
 
-pub not_tenths : {k : Scale} → k ≡ Tenths → number_of k ≡ 1 → ⊥
-not_tenths {k} e h = let z = sym (ap number_of e) ∙ h in omega arith
-
-pub not_tens : {k : Scale} → k ≡ Tens → number_of k ≡ 1 → ⊥
-not_tens {k} e h = let z = sym (ap number_of e) ∙ h in omega arith
+pub not_metres : {k : Scale} → (k ≡ Tenths) ⊎ (k ≡ Tens) → number_of k ≡ 1 → ⊥
+not_metres (inl e) h = let z = sym (ap number_of e) ∙ h in omega arith
+not_metres (inr e) h = let z = sym (ap number_of e) ∙ h in omega arith
 
 number_few : (k : Scale) → number_of k ≤ 2
 number_few Tenths = omega arith

@@ -11,73 +11,73 @@ use Rattle.retelling.proofs.kind.Goals as goal
 pub user-requires : goal.user-requires
 user-requires c =
     let a = c.args in
-    let n = sym (c.behind.ensures ∙ front a.s.now a.x (omega arith) c.requires.0.2 8 (omega arith)) ∙ c.in-44.is in
-    (c.requires.0, omega arith, rw n at c.requires.2)
+    let n = sym (c.behind.ensures ∙ front a.p.now.s.now a.p.now.x (omega arith) a.p.now.within.2 8 (omega arith)) ∙ c.in-44.is in
+    (omega arith, rw n at c.requires.1)
 
 pub returns-in-5 : goal.returns-in-5
 returns-in-5 c =
     let a = c.args in
-    let n = sym (c.behind.ensures ∙ front a.s.now a.x (omega arith) c.requires.0.2 8 (omega arith)) ∙ c.in-5.is in
-    let h = rw n at c.requires.2 in
-    c.list.ensures ∙ turns a.s.now (a.x + 23) (links_whole a.s.now a.x) (links_put a.s.now a.x) a.out.now a.k h.0 h.1 ∙ rw n
+    let n = sym (c.behind.ensures ∙ front a.p.now.s.now a.p.now.x (omega arith) a.p.now.within.2 8 (omega arith)) ∙ c.in-5.is in
+    let h = rw n at c.requires.1 in
+    c.list.ensures ∙ turns a.p.now.s.now (a.p.now.x + 23) (links_whole a.p.now.s.now a.p.now.x) (links_put a.p.now.s.now a.p.now.x) a.out.now a.k h.0 h.1 ∙ rw n
 
 pub returns-in-21 : goal.returns-in-21
 returns-in-21 c =
     let a = c.args in
-    let n = sym (c.behind.ensures ∙ front a.s.now a.x (omega arith) c.requires.0.2 8 (omega arith)) ∙ c.in-21.is in
-    let h = rw n at c.requires.2 in
-    c.list-in-21.ensures ∙ turns a.s.now (a.x + 23) (slopes_whole a.s.now a.x) (slopes_put a.s.now a.x) a.out.now a.k h.0 h.1 ∙ rw n
+    let n = sym (c.behind.ensures ∙ front a.p.now.s.now a.p.now.x (omega arith) a.p.now.within.2 8 (omega arith)) ∙ c.in-21.is in
+    let h = rw n at c.requires.1 in
+    c.list-in-21.ensures ∙ turns a.p.now.s.now (a.p.now.x + 23) (slopes_whole a.p.now.s.now a.p.now.x) (slopes_put a.p.now.s.now a.p.now.x) a.out.now a.k h.0 h.1 ∙ rw n
 
 pub returns-in-27 : goal.returns-in-27
 returns-in-27 c =
     let a = c.args in
-    let n = sym (c.behind.ensures ∙ front a.s.now a.x (omega arith) c.requires.0.2 8 (omega arith)) ∙ c.in-27.is in
-    let h = rw n at c.requires.2 in
-    c.list-in-27.ensures ∙ turns a.s.now (a.x + 23) (profiles_whole a.s.now a.x) (profiles_put a.s.now a.x) a.out.now a.k h.0 h.1 ∙ rw n
+    let n = sym (c.behind.ensures ∙ front a.p.now.s.now a.p.now.x (omega arith) a.p.now.within.2 8 (omega arith)) ∙ c.in-27.is in
+    let h = rw n at c.requires.1 in
+    c.list-in-27.ensures ∙ turns a.p.now.s.now (a.p.now.x + 23) (profiles_whole a.p.now.s.now a.p.now.x) (profiles_put a.p.now.s.now a.p.now.x) a.out.now a.k h.0 h.1 ∙ rw n
 
 pub returns-in-41 : goal.returns-in-41
 returns-in-41 c =
     let a = c.args in
-    let n = sym (c.behind.ensures ∙ front a.s.now a.x (omega arith) c.requires.0.2 8 (omega arith)) ∙ c.in-41.is in
-    let h = rw n at c.requires.2 in
-    (let z : a.x + 25 + 15 ≡ a.x + 40 = omega arith in rw z at c.led.ensures) ∙ turns a.s.now (a.x + 23) (levels_whole a.s.now a.x) (levels_put a.s.now a.x) a.out.now a.k h.0 h.1 ∙ rw n
+    let n = sym (c.behind.ensures ∙ front a.p.now.s.now a.p.now.x (omega arith) a.p.now.within.2 8 (omega arith)) ∙ c.in-41.is in
+    let h = rw n at c.requires.1 in
+    (let z : a.p.now.x + 25 + 15 ≡ a.p.now.x + 40 = omega arith in rw z at c.led.ensures) ∙ turns a.p.now.s.now (a.p.now.x + 23) (levels_whole a.p.now.s.now a.p.now.x) (levels_put a.p.now.s.now a.p.now.x) a.out.now a.k h.0 h.1 ∙ rw n
 
 pub returns-in-44 : goal.returns-in-44
 returns-in-44 c =
     let a = c.args in
-    let n = sym (c.behind.ensures ∙ front a.s.now a.x (omega arith) c.requires.0.2 8 (omega arith)) ∙ c.in-44.is in
+    let n = sym (c.behind.ensures ∙ front a.p.now.s.now a.p.now.x (omega arith) a.p.now.within.2 8 (omega arith)) ∙ c.in-44.is in
     c.user.ensures ∙ rw n
 
 pub returns-in-68 : goal.returns-in-68
 returns-in-68 c =
     let a = c.args in
-    let n = sym (c.behind.ensures ∙ front a.s.now a.x (omega arith) c.requires.0.2 8 (omega arith)) ∙ c.in-68.is in
-    let h = rw n at c.requires.2 in
-    c.track.ensures ∙ turns a.s.now (a.x + 23) (conditions_whole a.s.now a.x) (conditions_put a.s.now a.x) a.out.now a.k h.0 h.1 ∙ rw n
+    let n = sym (c.behind.ensures ∙ front a.p.now.s.now a.p.now.x (omega arith) a.p.now.within.2 8 (omega arith)) ∙ c.in-68.is in
+    let h = rw n at c.requires.1 in
+    c.track.ensures ∙ turns a.p.now.s.now (a.p.now.x + 23) (conditions_whole a.p.now.s.now a.p.now.x) (conditions_put a.p.now.s.now a.p.now.x) a.out.now a.k h.0 h.1 ∙ rw n
 
 pub returns-in-72 : goal.returns-in-72
 returns-in-72 c =
     let a = c.args in
-    let n = sym (c.behind.ensures ∙ front a.s.now a.x (omega arith) c.requires.0.2 8 (omega arith)) ∙ c.in-72.is in
-    let h = rw n at c.requires.2 in
-    c.text.ensures ∙ turns a.s.now (a.x + 23) (words_whole a.s.now a.x) (text_put a.s.now a.x) a.out.now a.k h.0 h.1 ∙ rw n
+    let n = sym (c.behind.ensures ∙ front a.p.now.s.now a.p.now.x (omega arith) a.p.now.within.2 8 (omega arith)) ∙ c.in-72.is in
+    let h = rw n at c.requires.1 in
+    c.text.ensures ∙ turns a.p.now.s.now (a.p.now.x + 23) (words_whole a.p.now.s.now a.p.now.x) (text_put a.p.now.s.now a.p.now.x) a.out.now a.k h.0 h.1 ∙ rw n
 
 pub returns-in-79 : goal.returns-in-79
 returns-in-79 c =
     let a = c.args in
-    let n = sym (c.behind.ensures ∙ front a.s.now a.x (omega arith) c.requires.0.2 8 (omega arith)) ∙ c.in-79.is in
-    let h = rw n at c.requires.2 in
-    c.list-in-79.ensures ∙ turns a.s.now (a.x + 23) (places_whole a.s.now a.x) (places_put a.s.now a.x) a.out.now a.k h.0 h.1 ∙ rw n
+    let n = sym (c.behind.ensures ∙ front a.p.now.s.now a.p.now.x (omega arith) a.p.now.within.2 8 (omega arith)) ∙ c.in-79.is in
+    let h = rw n at c.requires.1 in
+    c.list-in-79.ensures ∙ turns a.p.now.s.now (a.p.now.x + 23) (places_whole a.p.now.s.now a.p.now.x) (places_put a.p.now.s.now a.p.now.x) a.out.now a.k h.0 h.1 ∙ rw n
 
 pub returns-in-131 : goal.returns-in-131
 returns-in-131 c =
     let a = c.args in
-    let n = sym (c.behind.ensures ∙ front a.s.now a.x (omega arith) c.requires.0.2 8 (omega arith)) ∙ c.in-131.is in
-    let h = rw n at c.requires.2 in
-    c.one.ensures ∙ turns a.s.now (a.x + 23) (handover_whole a.s.now a.x) (handover_put a.s.now a.x) a.out.now a.k h.0 h.1 ∙ rw n
+    let n = sym (c.behind.ensures ∙ front a.p.now.s.now a.p.now.x (omega arith) a.p.now.within.2 8 (omega arith)) ∙ c.in-131.is in
+    let h = rw n at c.requires.1 in
+    c.one.ensures ∙ turns a.p.now.s.now (a.p.now.x + 23) (handover_whole a.p.now.s.now a.p.now.x) (handover_put a.p.now.s.now a.p.now.x) a.out.now a.k h.0 h.1 ∙ rw n
 
 pub returns-in_default : goal.returns-in_default
 returns-in_default c =
     let a = c.args in
-    kind_other a.s.now a.x a.out.now c.behind.result c.in_default.in_default-own.rest
-    ∙ ap (λ (i : ℕ). kind_put a.s.now a.x i a.out.now) (c.behind.ensures ∙ front a.s.now a.x (omega arith) c.requires.0.2 8 (omega arith))
+    kind_other a.p.now.s.now a.p.now.x a.out.now c.behind.result c.in_default.in_default-own.rest
+    ∙ ap (λ (i : ℕ). kind_put a.p.now.s.now a.p.now.x i a.out.now) (c.behind.ensures ∙ front a.p.now.s.now a.p.now.x (omega arith) a.p.now.within.2 8 (omega arith))

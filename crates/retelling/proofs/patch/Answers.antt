@@ -23,11 +23,11 @@ loop-x-init c = let a = c.args in walking_first a.s.now a.n a.out.now
 pub overflow_add-x : goal.overflow_add-x
 overflow_add-x c = omega (arith, c.loop-x.invariant.low)
 
-pub look-w-requires : goal.look-w-requires
-look-w-requires c = tt
+pub look-requires : goal.look-requires
+look-requires c = tt
 
 pub tell-requires : goal.tell-requires
-tell-requires c = ((omega arith, omega arith, c.look-w.ensures), omega (arith, c.loop-x.invariant.keeps))
+tell-requires c = omega (arith, c.loop-x.invariant.keeps)
 
 pub behind-long-requires : goal.behind-long-requires
 behind-long-requires c = tt
@@ -37,14 +37,14 @@ shape_of-out-then-long-eq0 c = c.out-1.given ∙ c.loop-x.invariant.keeps
 
 pub returns-then-long-eq0 : goal.returns-then-long-eq0
 returns-then-long-eq0 c =
-    let size : c.behind-long.result ≡ number_in c.args.s.now 13 (c.loop-x.x + 10) = c.behind-long.ensures ∙ there c.args.s.now c.loop-x.x (omega arith) c.look-w.ensures 10 13 (omega arith) in
+    let size : c.behind-long.result ≡ number_in c.args.s.now 13 (c.loop-x.x + 10) = c.behind-long.ensures ∙ there c.args.s.now c.loop-x.x (omega arith) c.look.ensures 10 13 (omega arith) in
     let a = c.args in
     walking_stops a.s.now a.n c.loop-x.invariant c.loop-x-test.true c.tell.ensures (sym (size) ∙ c.if-long-eq0.true)
     ∙ patched_is a.s.now a.n a.out.now (omega arith) (omega arith) (omega arith)
 
 pub overflow_add-x-in-loop-x : goal.overflow_add-x-in-loop-x
 overflow_add-x-in-loop-x c =
-    let size : c.behind-long.result ≡ number_in c.args.s.now 13 (c.loop-x.x + 10) = c.behind-long.ensures ∙ there c.args.s.now c.loop-x.x (omega arith) c.look-w.ensures 10 13 (omega arith) in
+    let size : c.behind-long.result ≡ number_in c.args.s.now 13 (c.loop-x.x + 10) = c.behind-long.ensures ∙ there c.args.s.now c.loop-x.x (omega arith) c.look.ensures 10 13 (omega arith) in
     let b = number_lt c.args.s.now 13 (c.loop-x.x + 10) in omega (arith, size, c.loop-x.invariant.low)
 
 pub loop-x-smaller : goal.loop-x-smaller
@@ -52,7 +52,7 @@ loop-x-smaller c = omega (arith, c.loop-x.invariant.low)
 
 pub loop-x-preserved : goal.loop-x-preserved
 loop-x-preserved c =
-    let size : c.behind-long.result ≡ number_in c.args.s.now 13 (c.loop-x.x + 10) = c.behind-long.ensures ∙ there c.args.s.now c.loop-x.x (omega arith) c.look-w.ensures 10 13 (omega arith) in
+    let size : c.behind-long.result ≡ number_in c.args.s.now 13 (c.loop-x.x + 10) = c.behind-long.ensures ∙ there c.args.s.now c.loop-x.x (omega arith) c.look.ensures 10 13 (omega arith) in
     let a = c.args in
     walking_on a.s.now a.n c.loop-x.invariant c.loop-x-test.true c.tell.ensures (λ z. c.if-long-eq0.false (size ∙ z)) c.out-1.given
     (ap (λ (k : ℕ). c.loop-x.x + k) (size))

@@ -10,11 +10,11 @@ use Rattle.retelling.proofs.track.Goals as goal
 pub returns-then-behind-eq1 : goal.returns-then-behind-eq1
 returns-then-behind-eq1 c =
     let a = c.args in
-    let long : 8 ≤ length a.s.now = omega arith in
-    c.one.ensures ∙ rw (← (c.behind.ensures ∙ there a.s.now a.x long c.requires.0.2 25 1 (omega arith)), eq-eqb c.behind.result 1 c.if-behind-eq1.true)
+    let long : 8 ≤ length a.p.now.s.now = omega arith in
+    c.one.ensures ∙ rw (← (c.behind.ensures ∙ there a.p.now.s.now a.p.now.x long a.p.now.within.2 25 1 (omega arith)), eq-eqb c.behind.result 1 c.if-behind-eq1.true)
 
 pub returns : goal.returns
 returns c =
     let a = c.args in
-    let long : 8 ≤ length a.s.now = omega arith in
-    c.list.ensures ∙ rw (← (c.behind.ensures ∙ there a.s.now a.x long c.requires.0.2 25 1 (omega arith)), ne_eqb c.behind.result 1 c.if-behind-eq1.false)
+    let long : 8 ≤ length a.p.now.s.now = omega arith in
+    c.list.ensures ∙ rw (← (c.behind.ensures ∙ there a.p.now.s.now a.p.now.x long a.p.now.within.2 25 1 (omega arith)), ne_eqb c.behind.result 1 c.if-behind-eq1.false)

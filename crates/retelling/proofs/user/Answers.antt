@@ -11,33 +11,33 @@ use Rattle.retelling.proofs.user.Goals as goal
 pub returns-in-1 : goal.returns-in-1
 returns-in-1 c =
     let a = c.args in
-    let h = c.requires.2 in
-    let n = sym (c.behind.ensures ∙ there a.s.now a.x (omega arith) c.requires.0.2 23 9 (omega arith)) ∙ c.in-1.is in
-    (let z : a.x + 49 + 15 ≡ a.x + 64 = omega arith in rw z at c.led.ensures) ∙ turns a.s.now (a.x + 47) (circuits_whole a.s.now a.x) (circuits_put a.s.now a.x) a.out.now a.k h.0 h.1 ∙ rw n
+    let h = c.requires.1 in
+    let n = sym (c.behind.ensures ∙ there a.p.now.s.now a.p.now.x (omega arith) a.p.now.within.2 23 9 (omega arith)) ∙ c.in-1.is in
+    (let z : a.p.now.x + 49 + 15 ≡ a.p.now.x + 64 = omega arith in rw z at c.led.ensures) ∙ turns a.p.now.s.now (a.p.now.x + 47) (circuits_whole a.p.now.s.now a.p.now.x) (circuits_put a.p.now.s.now a.p.now.x) a.out.now a.k h.0 h.1 ∙ rw n
 
 pub returns-in-2 : goal.returns-in-2
 returns-in-2 c =
     let a = c.args in
-    let h = c.requires.2 in
-    let n = sym (c.behind.ensures ∙ there a.s.now a.x (omega arith) c.requires.0.2 23 9 (omega arith)) ∙ c.in-2.is in
-    (let z : a.x + 49 + 15 ≡ a.x + 64 = omega arith in rw z at c.led-in-2.ensures) ∙ turns a.s.now (a.x + 47) (restrictions_whole a.s.now a.x) (restrictions_put a.s.now a.x) a.out.now a.k h.0 h.1 ∙ rw n
+    let h = c.requires.1 in
+    let n = sym (c.behind.ensures ∙ there a.p.now.s.now a.p.now.x (omega arith) a.p.now.within.2 23 9 (omega arith)) ∙ c.in-2.is in
+    (let z : a.p.now.x + 49 + 15 ≡ a.p.now.x + 64 = omega arith in rw z at c.led-in-2.ensures) ∙ turns a.p.now.s.now (a.p.now.x + 47) (restrictions_whole a.p.now.s.now a.p.now.x) (restrictions_put a.p.now.s.now a.p.now.x) a.out.now a.k h.0 h.1 ∙ rw n
 
 pub returns-in-3 : goal.returns-in-3
 returns-in-3 c =
     let a = c.args in
-    let h = c.requires.2 in
-    let n = sym (c.behind.ensures ∙ there a.s.now a.x (omega arith) c.requires.0.2 23 9 (omega arith)) ∙ c.in-3.is in
-    (let z : a.x + 49 + 15 ≡ a.x + 64 = omega arith in rw z at c.two.ensures) ∙ turns a.s.now (a.x + 47) (reverse_whole a.s.now a.x) (reverse_put a.s.now a.x) a.out.now a.k h.0 h.1 ∙ rw n
+    let h = c.requires.1 in
+    let n = sym (c.behind.ensures ∙ there a.p.now.s.now a.p.now.x (omega arith) a.p.now.within.2 23 9 (omega arith)) ∙ c.in-3.is in
+    (let z : a.p.now.x + 49 + 15 ≡ a.p.now.x + 64 = omega arith in rw z at c.two.ensures) ∙ turns a.p.now.s.now (a.p.now.x + 47) (reverse_whole a.p.now.s.now a.p.now.x) (reverse_put a.p.now.s.now a.p.now.x) a.out.now a.k h.0 h.1 ∙ rw n
 
 pub returns-in-4 : goal.returns-in-4
 returns-in-4 c =
     let a = c.args in
-    let h = c.requires.2 in
-    let n = sym (c.behind.ensures ∙ there a.s.now a.x (omega arith) c.requires.0.2 23 9 (omega arith)) ∙ c.in-4.is in
-    c.one.ensures ∙ turns a.s.now (a.x + 47) (turnout_whole a.s.now a.x) (turnout_put a.s.now a.x) a.out.now a.k h.0 h.1 ∙ rw n
+    let h = c.requires.1 in
+    let n = sym (c.behind.ensures ∙ there a.p.now.s.now a.p.now.x (omega arith) a.p.now.within.2 23 9 (omega arith)) ∙ c.in-4.is in
+    c.one.ensures ∙ turns a.p.now.s.now (a.p.now.x + 47) (turnout_whole a.p.now.s.now a.p.now.x) (turnout_put a.p.now.s.now a.p.now.x) a.out.now a.k h.0 h.1 ∙ rw n
 
 pub returns-in_default : goal.returns-in_default
 returns-in_default c =
     let a = c.args in
-    user_other a.s.now a.x a.out.now c.behind.result c.in_default.in_default-own.rest
-    ∙ ap (λ (u : ℕ). user_put a.s.now a.x u a.out.now) (c.behind.ensures ∙ there a.s.now a.x (omega arith) c.requires.0.2 23 9 (omega arith))
+    user_other a.p.now.s.now a.p.now.x a.out.now c.behind.result c.in_default.in_default-own.rest
+    ∙ ap (λ (u : ℕ). user_put a.p.now.s.now a.p.now.x u a.out.now) (c.behind.ensures ∙ there a.p.now.s.now a.p.now.x (omega arith) a.p.now.within.2 23 9 (omega arith))
