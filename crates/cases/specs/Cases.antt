@@ -1,12 +1,11 @@
 -- docs/RULES.md, "Worked telegrams", 1 to 8, asked for as "Cases 1 to 8 are one table, proved once against the definitions; other cases are run". One
 -- table of claims about the definitions. Definitions alone.
-use Rattle.std.specs.Prelude.{Bool, true, false, not, ◌&&◌, List, [], ◌∷◌, ◌++◌, ℕ, zero, suc, ◌+◌, eqb, length}
+use Rattle.std.specs.Prelude.{Bool, true, false, not, ◌&&◌, List, [], ◌∷◌, ◌++◌, ℕ, zero, suc, ◌+◌, eqb, length, Ok, Err}
 use Rattle.bits.specs.Bits.{same}
 use Rattle.format.specs.Refusals.{in_numbers}
 use Rattle.format.specs.Rules.{paper}
 use Rattle.format.specs.Telegrams.{Result, bits, values, bit_count, write}
 use Rattle.format.specs.Telegrams.Result.{accepted, refused}
-use Rattle.format.specs.declared.Answer.TheVariants.{Accepted, Refused}
 use Rattle.states.specs.Reader.{checked}
 use Rattle.states.specs.Normaliser.{normal_of}
 
@@ -51,8 +50,8 @@ abbrev pub numbered : ℕ × ℕ → List ℕ → List ℕ
 numbered x vs = x.0 ∷ x.1 ∷ vs
 
 abbrev pub told : Result → List ℕ
-told (accepted es) = numbered (in_numbers (Accepted (length (values es)))) (values es)
-told (refused r) = numbered (in_numbers (Refused r)) []
+told (accepted es) = numbered (in_numbers (Ok (length (values es)))) (values es)
+told (refused r) = numbered (in_numbers (Err r)) []
 
 unfoldable pub holds : Claim → Bool
 holds (reads s n vs k) = same (told (checked paper s n)) (0 ∷ k ∷ vs)

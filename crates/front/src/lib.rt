@@ -4,45 +4,25 @@
 ghost use Rattle.std.specs.Prelude.{◌≡◌};
 ghost use Rattle.states.specs.Heads.{front_of};
 
-use bits::{Cursor, Skipped, Taken};
-use states::{Begun, Level, State, Todo};
+use bits::Cursor;
+use states::State;
 
 // The state behind the header of the first n bits of s, if it keeps every rule. Its first three fields are 1, 16 and 0, which is 288 in nine bits.
-pub fn header(s: &[u8], n: usize) -> Begun
+pub fn header(s: &[u8], n: usize) -> Option<State>
     ensures { result ≡ front_of s.now n }
 {
     let c = Cursor { at: 0 };
-    let Taken::Field(a, read) = c.take(s, n, 25) else {
-        return Begun::Not;
-    };
-    let Skipped::To(end) = read.skip(n, 25) else {
-        return Begun::Not;
-    };
+    let (a, read) = c.take(s, n, 25)?;
+    let end = read.skip(n, 25)?;
     let pig = a / 8192 % 8;
     if a / 65536 != 288 {
-        return Begun::Not;
+        return None;
     }
     if a / 1024 % 8 < pig {
-        return Begun::Not;
+        return None;
     }
     if a / 256 % 4 == 3 {
-        return Begun::Not;
+        return None;
     }
-    let todo = Todo {
-        node: 0,
-        left: 0,
-        outer: 0,
-    };
-    Begun::To(State {
-        at: end.at,
-        todo,
-        level: Level::Packet,
-        start: end.at,
-        id: 0,
-        dir: 0,
-        long: 0,
-        userstart: 0,
-        userlong: 0,
-        pig,
-    })
+    Some(State::fresh(end.at, pig))
 }

@@ -9,43 +9,27 @@ ghost use Rattle.states.specs.Machine.{Noted, context_of, level_of};
 
 use format::{Kind, Spot};
 use packets::heads::{INNER_L_PACKET, OUTER_L_PACKET};
-use refusals::number;
 use states::codes::{DIRECTION, PACKET, PIG, SIZE, USER};
 use states::{Level, State};
-use std::num::wrapping_add_usize;
 
 // ---- what a value leaves for later rules
 
 fn directed(s: State, v: u64) -> State
     ensures { Noted s 9 v result }
 {
-    let l = s.level;
-    let mut r = s;
-    match l {
-        Level::Header => r,
-        Level::Packet => {
-            r.dir = v;
-            r
-        }
-        Level::User => r,
+    match s.level {
+        Level::Header | Level::User => s,
+        Level::Packet => State { dir: v, ..s },
     }
 }
 
 fn measured(s: State, v: u64) -> State
     ensures { Noted s 3 v result }
 {
-    let l = s.level;
-    let mut r = s;
-    match l {
-        Level::Header => r,
-        Level::Packet => {
-            r.long = v;
-            r
-        }
-        Level::User => {
-            r.userlong = v;
-            r
-        }
+    match s.level {
+        Level::Header => s,
+        Level::Packet => State { long: v, ..s },
+        Level::User => State { userlong: v, ..s },
     }
 }
 
@@ -53,46 +37,27 @@ fn measured(s: State, v: u64) -> State
 pub fn noted(s: State, c: u32, v: u64) -> State
     ensures { Noted s c v result }
 {
-    if c == DIRECTION {
-        return directed(s, v);
-    }
-    if c == SIZE {
-        return measured(s, v);
-    }
-    let t = s.todo;
-    if c == PACKET {
-        return State {
-            at: s.at,
-            todo: t,
+    match c {
+        DIRECTION => directed(s, v),
+        SIZE => measured(s, v),
+        PACKET => State {
             level: Level::Packet,
-            start: s.start,
             id: v,
             dir: 0,
             long: 0,
             userstart: 0,
             userlong: 0,
-            pig: s.pig,
-        };
-    }
-    if c == USER {
-        return State {
-            at: s.at,
-            todo: t,
+            ..s
+        },
+        USER => State {
             level: Level::User,
-            start: s.start,
-            id: s.id,
-            dir: s.dir,
-            long: s.long,
             userstart: s.at,
             userlong: 0,
-            pig: s.pig,
-        };
+            ..s
+        },
+        PIG => State { pig: v, ..s },
+        _ => s,
     }
-    let mut r = s;
-    if c == PIG {
-        r.pig = v;
-    }
-    r
 }
 
 // ---- a packet's end
@@ -101,8 +66,7 @@ pub fn noted(s: State, c: u32, v: u64) -> State
 pub fn closes(s: State, at: usize) -> bool
     ensures { (l : List Earlier) → result ≡ rules.closes at (context_of l s) (level_of s.level) }
 {
-    let l = s.level;
-    match l {
+    match s.level {
         Level::Header => true,
         Level::Packet => since(at, s.start) == s.long,
         Level::User => {
@@ -118,10 +82,7 @@ pub fn closes(s: State, at: usize) -> bool
 fn since(at: usize, from: usize) -> u64
     ensures { result ≡ at - from }
 {
-    if at < from {
-        return 0;
-    }
-    (at - from) as u64
+    at.saturating_sub(from) as u64
 }
 
 // ---- a refusal
@@ -134,8 +95,8 @@ pub fn place(kind: Kind, s: State, end: usize) -> usize
     match spot(kind, s, end) {
         Spot::Due => s.at,
         Spot::Behind => end,
-        Spot::Outer => wrapping_add_usize(s.start, OUTER_L_PACKET),
-        Spot::Inner => wrapping_add_usize(s.userstart, INNER_L_PACKET),
+        Spot::Outer => s.start.wrapping_add(OUTER_L_PACKET),
+        Spot::Inner => s.userstart.wrapping_add(INNER_L_PACKET),
     }
 }
 
@@ -143,22 +104,18 @@ pub fn place(kind: Kind, s: State, end: usize) -> usize
 fn spot(kind: Kind, s: State, end: usize) -> Spot
     ensures { (l : List Earlier) → result ≡ spot_of kind end (context_of l s) }
 {
-    let n = number(kind);
-    if n == 8 {
-        return misfit(s, end);
+    match kind {
+        Kind::Length => misfit(s, end),
+        Kind::Trailing => Spot::Behind,
+        _ => Spot::Due,
     }
-    if n == 11 {
-        return Spot::Behind;
-    }
-    Spot::Due
 }
 
 // The L_PACKET that is wrong where a packet ends at the bit end, the inner one tested first.
 fn misfit(s: State, end: usize) -> Spot
     ensures { (l : List Earlier) → result ≡ rules.misfit end (context_of l s) }
 {
-    let l = s.level;
-    match l {
+    match s.level {
         Level::Header => Spot::Due,
         Level::Packet => Spot::Outer,
         Level::User => {

@@ -4,7 +4,6 @@ ghost use Rattle.states.specs.Reader.{sized};
 ghost use Rattle.states.specs.Writer.{fitting};
 
 use format::Kind;
-use states::Verdict;
 
 // Whether n is the length of a telegram, and s has the bytes for it and no more.
 pub fn sized(s: &[u8], n: usize) -> bool
@@ -20,14 +19,14 @@ pub fn sized(s: &[u8], n: usize) -> bool
 }
 
 // Whether v fits a field of w bits and that field, which ends at the bit end, the telegram. A value that is too wide is told first.
-pub fn fitting(v: u64, w: usize, end: usize) -> Verdict
+pub fn fitting(v: u64, w: usize, end: usize) -> Result<(), Kind>
     ensures { result ≡ fitting v w end }
 {
     if !bits::fits(v, w) {
-        return Verdict::Broken(Kind::Wide);
+        return Err(Kind::Wide);
     }
     if 830 < end {
-        return Verdict::Broken(Kind::Full);
+        return Err(Kind::Full);
     }
-    Verdict::Fine
+    Ok(())
 }

@@ -6,7 +6,7 @@ ghost use Rattle.std.specs.Prelude.{◌≡◌, ◌-◌};
 ghost use Rattle.format.specs.Rules.{clash, collides_among};
 ghost use Rattle.states.specs.Lookback.{packets_before};
 
-use bits::{Cursor, Skipped, Taken};
+use bits::Cursor;
 use clashes::{exempt, meets};
 use packets::heads::OUTER_HEAD;
 
@@ -23,13 +23,13 @@ pub fn collides_slowly(s: &[u8], stop: usize, id: u64, dir: u64) -> bool
     }
     let mut c = Cursor { at: HEADER };
     loop {
-        let Taken::Field(a, body) = c.take(s, stop, OUTER_HEAD) else {
+        let Some((a, body)) = c.take(s, stop, OUTER_HEAD) else {
             return false;
         };
         if meets(a / 32768, a / 8192 % 4, id, dir) {
             return true;
         }
-        let Skipped::To(next) = body.skip(stop, behind_head(a % 8192)) else {
+        let Some(next) = body.skip(stop, behind_head(a % 8192)) else {
             return false;
         };
         c = next;

@@ -1,5 +1,6 @@
 -- What is to be sent after a value: an identifier leads to its packet's first row, and a field is passed with as many groups' ends as can
 -- stand together. Assumes nothing.
+use Rattle.std.specs.Prelude.{Some, None}
 use mathlib.Core.Path.{◌≡◌, refl, ◌∙◌, subst, sym, ap}
 use mathlib.Core.Option.{some}
 use Prim.Native.Nat.{ℕ, zero, suc, ◌+◌, ◌-◌, ◌<◌}
@@ -12,7 +13,6 @@ use Rattle.format.specs.declared.Start.{Start}
 use Rattle.format.proofs.Rows.{three_up, end_jump, up_in, up_repeats, group_starts, node_end, root_at, etcs_root, ctcs_root, etcs_in, ctcs_in, etcs_up, ctcs_up, none_act, none_up}
 use Rattle.states.specs.Machine.{todo_of, Tidy, Moved, Turned, Advanced}
 use Rattle.states.specs.declared.Todo.{Todo}
-use Rattle.states.specs.declared.Ahead.TheVariants.{On, Mark}
 use Rattle.states.proofs.Moves.{todo_end, todo_nest, todo_next, start_todo, follows_next, moves_on, turns_none, turns_again}
 
 -- no group holds a group that holds a group: after two turns it is no group's end
@@ -53,11 +53,11 @@ module _ (t : Todo) (v : ℕ) (d : Tidy t) where
         ap (λ i. next i v) (todo_end t.node t.left t.outer e (d.settled e)) ∙ etcs_root v ∙ ap root_at (sym row_is)
 
     -- there is none: the end mark
-    pub advances_over : s.row ≡ 0 → Advanced t v Mark
+    pub advances_over : s.row ≡ 0 → Advanced t v None
     advances_over z = record { tidy = tt; items = next_is ∙ ap root_at z }
 
     -- its first row
-    pub advances_to : (s.row ≡ 0 → ⊥) → Advanced t v (On (record { node = s.row; left = 0; outer = 0 }))
+    pub advances_to : (s.row ≡ 0 → ⊥) → Advanced t v (Some (record { node = s.row; left = 0; outer = 0 }))
     advances_to n =
         let u : up s.row ≡ 0 = ap up row_is ∙ etcs_up v in
         record {
@@ -73,7 +73,7 @@ module _ (t : Todo) (v : ℕ) (d : Tidy t) where
     user_row_is = ap (λ x. x.row) q
 
     -- its first row, or row 0
-    pub advances_inside : Advanced t v (On (record { node = s.row; left = 0; outer = 0 }))
+    pub advances_inside : Advanced t v (Some (record { node = s.row; left = 0; outer = 0 }))
     unfolding next
     advances_inside =
         let u : up s.row ≡ 0 = ap up user_row_is ∙ ctcs_up v in
@@ -86,7 +86,7 @@ module _ (t : Todo) (v : ℕ) (d : Tidy t) where
         }
 
   -- at a field: it is passed, and then up to two ends
-  pub advances_on : (m r s : Todo) → 1 < act t.node → Moved t v m → Turned m r → Turned r s → Advanced t v (On s)
+  pub advances_on : (m r s : Todo) → 1 < act t.node → Moved t v m → Turned m r → Turned r s → Advanced t v (Some s)
   advances_on m r s a p f g =
       record {
         tidy = two_turns m r s p.inside f g;
@@ -95,14 +95,14 @@ module _ (t : Todo) (v : ℕ) (d : Tidy t) where
       }
 
   -- and at no end, that is all
-  pub advances_turned : (m r : Todo) → 1 < act t.node → Moved t v m → Turned m r → (act r.node ≡ 0 → ⊥) → Advanced t v (On r)
+  pub advances_turned : (m r : Todo) → 1 < act t.node → Moved t v m → Turned m r → (act r.node ≡ 0 → ⊥) → Advanced t v (Some r)
   advances_turned m r a p f n = advances_on m r r a p f (stays r f.inside n)
 
   -- nor at a packet's end
-  pub advances_ending : (m r : Todo) → 1 < act t.node → Moved t v m → Turned m r → act r.node ≡ 0 → jump r.node ≡ 0 → Advanced t v (On r)
+  pub advances_ending : (m r : Todo) → 1 < act t.node → Moved t v m → Turned m r → act r.node ≡ 0 → jump r.node ≡ 0 → Advanced t v (Some r)
   advances_ending m r a p f z j = advances_on m r r a p f (turns_none r 0 f.inside z (sym j) refl)
 
-  advances_moved : (m : Todo) → 1 < act t.node → Moved t v m → (act m.node ≡ 0 → ⊥) → Advanced t v (On m)
+  advances_moved : (m : Todo) → 1 < act t.node → Moved t v m → (act m.node ≡ 0 → ⊥) → Advanced t v (Some m)
   advances_moved m a p n = advances_turned m m a p (stays m p.inside n) n
 
   -- at a field that steers nothing
@@ -116,11 +116,11 @@ module _ (t : Todo) (v : ℕ) (d : Tidy t) where
         (follows_next t.node v d.inside (omega arith) (omega arith) (λ h. absurd (omega arith)))
 
     -- before a row that is no end: that row
-    pub advances_next : (act (t.node + 1) ≡ 0 → ⊥) → Advanced t v (On next_row)
+    pub advances_next : (act (t.node + 1) ≡ 0 → ⊥) → Advanced t v (Some next_row)
     advances_next n = advances_moved next_row (omega arith) passed n
 
     -- before a packet's end: that end
-    pub advances_end : act (t.node + 1) ≡ 0 → up (t.node + 1) ≡ 0 → Advanced t v (On next_row)
+    pub advances_end : act (t.node + 1) ≡ 0 → up (t.node + 1) ≡ 0 → Advanced t v (Some next_row)
     advances_end z u =
         let s : Turned next_row next_row = record { inside = passed.inside; items = refl; was = λ e. e; out = λ e. rw (u, none_up) } in
         advances_on next_row next_row next_row (omega arith) passed s s
@@ -134,7 +134,7 @@ module _ (t : Todo) (v : ℕ) (d : Tidy t) where
           let i = up_in (t.node + 1) passed.inside in
           rw (add-one, u) (group_starts (up (t.node + 1)) i (up_repeats (t.node + 1) passed.inside q))
 
-      pub advances_again : Advanced t v (On (record { node = jump (t.node + 1) + 1; left = t.left - 1; outer = t.outer }))
+      pub advances_again : Advanced t v (Some (record { node = jump (t.node + 1) + 1; left = t.left - 1; outer = t.outer }))
       advances_again =
           let g = turns_again next_row (jump (t.node + 1)) passed.inside z refl (λ h. omega arith) (jump (t.node + 1) + 1) (λ h. omega arith) refl in
           let n = again_field in

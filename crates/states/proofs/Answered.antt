@@ -4,12 +4,12 @@ use mathlib.Core.Path.{◌≡◌}
 use Prim.Native.Nat.{ℕ}
 use lib.ListN.{length}
 use Rattle.format.specs.Rules.{Terms}
-use Rattle.format.specs.declared.Answer.{Answer}
 use Rattle.format.proofs.Numbers.{answer_is}
 use Rattle.states.specs.Reader.{read_into, answer_of, Read}
 use Rattle.states.specs.Writer.{write_into, size_of, Write}
 use Rattle.states.specs.Labels.{label_into, Label}
 use Rattle.states.specs.Normaliser.{normalise_into, Normalise}
+use Rattle.format.specs.Refusals.{Answer}
 
 module _ {p : Terms} {before after : List ℕ} {a : Answer} where
   pub read_answer : {s : List ℕ} {n : ℕ} → Read p s n before a after → a ≡ answer_of (read_into p s n (length before))

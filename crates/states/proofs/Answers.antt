@@ -1,5 +1,6 @@
 -- What the answers of the check and of the reader say: which number is given when, and that an accepted telegram is tiled. For any terms. Assumes
 -- nothing.
+use Rattle.std.specs.Prelude.{Ok, Err}
 use mathlib.Core.Bool.{Bool, true, false, cond, ◌&&◌}
 use mathlib.Core.List.{List, [], ◌∷◌}
 use mathlib.Core.Logic.{◌↔◌, ◌⊎◌, inl, inr}
@@ -32,7 +33,6 @@ use Rattle.laws.proofs.Sources.{width_positive}
 use Rattle.laws.proofs.Tile.{Tiled, tiled, bit_counts}
 use Rattle.states.specs.Reader.{early, sized, clear, checked, read_into, answer_of}
 use Rattle.laws.proofs.Order.{of_value_number, onward_breaks, broken_of_value, rule_due, noted_at}
-use Rattle.format.specs.declared.Answer.TheVariants as Answers
 
 -- ---- which number is given when
 
@@ -55,11 +55,11 @@ module _ (Right : List Entry → Type 0) (Wrong : Refusal → Type 0) where
       }
 
 -- what an answer says of the result behind it
-pub answer_accepted : (a : Result) (count : ℕ) → (Answers.Accepted count ≡ answer_of a) ↔ ((es : List Entry) × (a ≡ accepted es) × (count ≡ length (values es)))
+pub answer_accepted : (a : Result) (count : ℕ) → (Ok count ≡ answer_of a) ↔ ((es : List Entry) × (a ≡ accepted es) × (count ≡ length (values es)))
 answer_accepted (accepted es) count = (λ h. (es, refl, cc), λ h. let e : es ≡ h.0 = cc in rw e (cc))
 answer_accepted (refused r) count = (λ h. let z : ◌≡◌ {A = ℕ} 0 1 = cc in absurd (omega arith), λ h. cc)
 
-pub answer_refused : (a : Result) (r : Refusal) → (Answers.Refused r ≡ answer_of a) ↔ (a ≡ refused r)
+pub answer_refused : (a : Result) (r : Refusal) → (Err r ≡ answer_of a) ↔ (a ≡ refused r)
 answer_refused (accepted es) r = (λ h. cc, λ h. cc)
 answer_refused (refused q) r = (λ h. cc, λ h. cc)
 

@@ -1,5 +1,6 @@
 -- Readers that cheat, and for each a telegram at which its answer does not meet the promise: the checker computes what the definitions
 -- answer there. Assumes nothing.
+use Rattle.std.specs.Prelude.{Ok, Err}
 use mathlib.Core.Bool.{Bool, true, false, cond, ◌&&◌}
 use mathlib.Core.List.{List, [], ◌∷◌, ◌++◌}
 use mathlib.Core.Logic.{◌≢◌}
@@ -14,7 +15,6 @@ use Rattle.format.specs.Refusals.{in_numbers}
 use Rattle.format.specs.Rules.{begun, next, misdirected, broken, noted, closes, settled, onward, step, radio_from, spot_of, spot_at, place_from, field_place, clash, among, collides_by, paper}
 use Rattle.format.specs.Telegrams.{Result, read, from_bits, drive, values_in}
 use Rattle.format.specs.Telegrams.Result.{accepted, refused}
-use Rattle.format.specs.declared.Answer.TheVariants.{Accepted, Refused}
 use Rattle.format.specs.declared.Kind.TheVariants.{Length}
 use Rattle.format.specs.declared.Refusal.{Refusal}
 use Rattle.format.proofs.Numbers.{answer_is}
@@ -32,19 +32,19 @@ one = 0x90 ∷ 0x14 ∷ 0x0F ∷ 0x02 ∷ 0xA8 ∷ 0x02 ∷ 0x3F ∷ 0xC0 ∷ []
 abbrev another : List ℕ
 another = 0x90 ∷ 0x14 ∷ 0x0F ∷ 0x02 ∷ 0xA8 ∷ 0x02 ∷ 0xBF ∷ 0xC0 ∷ []
 
-one_accepted : answer_of (checked paper one 58) ≡ Accepted 11
+one_accepted : answer_of (checked paper one 58) ≡ Ok 11
 unfolding computed values_in
 one_accepted = refl
 
 -- ---- one that refuses everything
 
-pub refuses_everything : (why : List ℕ → ℕ → Refusal) → ((s : List ℕ) (n : ℕ) → in_numbers (Refused (why s n)) ≡ in_numbers (answer_of (checked paper s n))) → ⊥
-refuses_everything why h = let e = answer_is (Refused (why one 58)) _ (h one 58) ∙ one_accepted in let z : ◌≡◌ {A = ℕ} 0 1 = cc in omega arith
+pub refuses_everything : (why : List ℕ → ℕ → Refusal) → ((s : List ℕ) (n : ℕ) → in_numbers (Err (why s n)) ≡ in_numbers (answer_of (checked paper s n))) → ⊥
+refuses_everything why h = let e = answer_is (Err (why one 58)) _ (h one 58) ∙ one_accepted in let z : ◌≡◌ {A = ℕ} 0 1 = cc in omega arith
 
 -- ---- one that invents the count
 
-pub invents_the_count : (k : ℕ) → k ≢ 11 → in_numbers (Accepted k) ≡ in_numbers (answer_of (checked paper one 58)) → ⊥
-invents_the_count k d h = let e = answer_is (Accepted k) _ h ∙ one_accepted in d cc
+pub invents_the_count : (k : ℕ) → k ≢ 11 → in_numbers (Ok k) ≡ in_numbers (answer_of (checked paper one 58)) → ⊥
+invents_the_count k d h = let e = answer_is (Ok k) _ h ∙ one_accepted in d cc
 
 -- ---- one that stores the same values whatever it reads
 
@@ -53,7 +53,7 @@ abbrev lent : List ℕ
 lent = replicate 830 0
 
 pub stores_the_same : (vs : List ℕ)
-    → ((s : List ℕ) (n count : ℕ) (before after : List ℕ) → Read paper s n before (Accepted count) after → after ≡ vs ++ drop (length vs) before) → ⊥
+    → ((s : List ℕ) (n count : ℕ) (before after : List ℕ) → Read paper s n before (Ok count) after → after ≡ vs ++ drop (length vs) before) → ⊥
 unfolding computed read_into values_in
 stores_the_same vs h =
     let a = h one 58 11 lent (values_over (checked paper one 58) lent) (record { answers = refl; contents = refl }) in
@@ -94,9 +94,9 @@ unread_refused : checked paper unread 113 ≡ refused (record { kind = Length; p
 unfolding computed
 unread_refused = refl
 
-pub skips_the_rest : ((s : List ℕ) (n : ℕ) → skims (take n (bits_of s)) ≡ true → (count : ℕ) × (in_numbers (Accepted count) ≡ in_numbers (answer_of (checked paper s n)))) → ⊥
+pub skips_the_rest : ((s : List ℕ) (n : ℕ) → skims (take n (bits_of s)) ≡ true → (count : ℕ) × (in_numbers (Ok count) ≡ in_numbers (answer_of (checked paper s n)))) → ⊥
 skips_the_rest h =
     let a = h unread 113 unread_skimmed in
-    let e = answer_is (Accepted a.0) _ a.1 ∙ ap answer_of unread_refused in
+    let e = answer_is (Ok a.0) _ a.1 ∙ ap answer_of unread_refused in
     let z : ◌≡◌ {A = ℕ} 0 1 = cc in
     omega arith

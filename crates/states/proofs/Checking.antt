@@ -1,4 +1,5 @@
 -- The check and the reader by the tests that they make: 1, then 2, then 3, then field by field. Assumes nothing.
+use Rattle.std.specs.Prelude.{Ok, Err}
 use mathlib.Core.Path.{◌≡◌, refl, sym, ap, ◌∙◌}
 use mathlib.Core.Bool.{Bool, true, false, cond, ◌&&◌}
 use mathlib.Core.List.{List, [], ◌++◌, append-nil}
@@ -11,14 +12,12 @@ use lib.Seq.{length-take-le, split_at, drop-drop, drop_at}
 use Rattle.bits.specs.Bits.{digits, value_of, bits_of, bytes_for}
 use Rattle.bits.proofs.Bytes.{length_bits_of, below_bits_of, below_take, bits_of_append, bits_of_cons}
 use Rattle.bits.proofs.Digits.{drop_digits, value_of_digits_mod}
-use Rattle.format.specs.Refusals.{in_numbers}
+use Rattle.format.specs.Refusals.{in_numbers, Answer}
 use Rattle.format.specs.Rules.{Terms, paper}
 use Rattle.format.specs.Telegrams.{values, Entry, Result, Telegram, bits, read}
 use Rattle.format.specs.Telegrams.Result.{accepted, refused}
 use Rattle.format.specs.declared.Kind.TheVariants.{Room, Size, Padding}
 use Rattle.format.specs.declared.Refusal.{Refusal}
-use Rattle.format.specs.declared.Answer.{Answer}
-use Rattle.format.specs.declared.Answer.TheVariants.{Accepted, Refused}
 use Rattle.laws.proofs.Demand2.{read_is}
 use Rattle.states.specs.Reader.{answered, sized, clear, early, at_once, checked, read_into, answer_of, Read}
 use Rattle.states.specs.Filling.{Filling, Filled}
@@ -121,18 +120,18 @@ pub record AcceptedAs (f : List Entry → ℕ) (r : Result) (k : ℕ) : Type 0 w
   pub is : r ≡ accepted entries
   pub counted : k ≡ f entries
 
-pub was_accepted : (f : List Entry → ℕ) (r : Result) (a : Answer) (k : ℕ) → a ≡ answered f r → a ≡ Accepted k → AcceptedAs f r k
+pub was_accepted : (f : List Entry → ℕ) (r : Result) (a : Answer) (k : ℕ) → a ≡ answered f r → a ≡ Ok k → AcceptedAs f r k
 was_accepted f (accepted es) a k p q = let e : k ≡ f es = cc in record { entries = es; is = refl; counted = e }
 was_accepted f (refused r) a k p q = let z : ◌≡◌ {A = ℕ} 0 1 = cc in absurd (omega arith)
 
-pub was_refused : (f : List Entry → ℕ) (r : Result) (a : Answer) (x : Refusal) → a ≡ answered f r → a ≡ Refused x → r ≡ refused x
+pub was_refused : (f : List Entry → ℕ) (r : Result) (a : Answer) (x : Refusal) → a ≡ answered f r → a ≡ Err x → r ≡ refused x
 was_refused f (accepted es) a x p q = let z : ◌≡◌ {A = ℕ} 0 1 = cc in absurd (omega arith)
 was_refused f (refused r) a x p q = let e : r ≡ x = cc in ap refused e
 
 abbrev counted : List Entry → ℕ
 counted es = length (values es)
 
-pub fillable : (s : List ℕ) (n : ℕ) (out : List ℕ) (a : Answer) (k : ℕ) → 830 ≤ length out → a ≡ answer_of (checked paper s n) → a ≡ Accepted k
+pub fillable : (s : List ℕ) (n : ℕ) (out : List ℕ) (a : Answer) (k : ℕ) → 830 ≤ length out → a ≡ answer_of (checked paper s n) → a ≡ Ok k
     → Filling s n out
 fillable s n out a k room p q =
     let w = was_accepted counted (checked paper s n) a k p q in
@@ -140,7 +139,7 @@ fillable s n out a k room p q =
     record { entries = w.entries; telegram = h.telegram; same = h.same; within = h.within; room = room }
 
 module _ (s : List ℕ) (n : ℕ) (before : List ℕ) where
-  pub reads_roomless : length before < 830 → Read paper s n before (Refused (early Room)) before
+  pub reads_roomless : length before < 830 → Read paper s n before (Err (early Room)) before
   unfolding read_into
   reads_roomless h = let e = without_room 830 (length before) (checked paper s n) h in record { answers = rw e; contents = rw e }
 
@@ -149,10 +148,10 @@ module _ (s : List ℕ) (n : ℕ) (before : List ℕ) where
     unfolding read_into
     into = with_room 830 (length before) (checked paper s n) h
 
-    pub reads_refused : (a : Answer) (x : Refusal) → a ≡ answer_of (checked paper s n) → a ≡ Refused x → Read paper s n before a before
+    pub reads_refused : (a : Answer) (x : Refusal) → a ≡ answer_of (checked paper s n) → a ≡ Err x → Read paper s n before a before
     reads_refused a x p q = record { answers = rw into (ap in_numbers p); contents = rw (into, was_refused counted (checked paper s n) a x p q) }
 
-    pub reads_accepted : (a : Answer) (k : ℕ) (after : List ℕ) → a ≡ answer_of (checked paper s n) → a ≡ Accepted k
+    pub reads_accepted : (a : Answer) (k : ℕ) (after : List ℕ) → a ≡ answer_of (checked paper s n) → a ≡ Ok k
         → Filled s n before after → Read paper s n before a after
     reads_accepted a k after p q f =
         let w = was_accepted counted (checked paper s n) a k p q in

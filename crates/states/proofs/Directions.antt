@@ -1,4 +1,5 @@
 -- The Q_DIR of packets: when one is due, and a step that is told whether its packet collides. Assumes nothing.
+use Rattle.std.specs.Prelude.{Result, Option}
 use mathlib.Core.Path.{◌≡◌, refl, sym, ◌∙◌}
 use mathlib.Core.Bool.{Bool, true, false}
 use mathlib.Core.List.{List}
@@ -15,7 +16,7 @@ use Rattle.states.specs.Machine.{context_of, view, next_of, rule_at, earlier_aft
 use Rattle.states.specs.declared.Level.{Level}
 use Rattle.states.specs.declared.Level.TheVariants.{Packet, User}
 use Rattle.states.specs.declared.State.{State}
-use Rattle.states.specs.declared.Outcome.{Outcome}
+use Rattle.format.specs.declared.Kind.{Kind}
 
 -- ---- when a packet's Q_DIR is due
 
@@ -74,11 +75,11 @@ repeats_so s v before k l e = let z = directs_so s k l in e ∙ rw z
 -- ---- a driver's turn
 
 -- one step of the rules from a state with these packets before
-pub record Passed (l : List Earlier) (s : State) (v : ℕ) (r : Outcome) : Type 0 where
+pub record Passed (l : List Earlier) (s : State) (v : ℕ) (r : Result (Option State) Kind) : Type 0 where
   pub right : step paper (view l s) v ≡ next_of (earlier_after l s v) r
   pub goes : Kept (s.at + (field_at s.todo.node).width) r
 
 -- where twice says whether the packet collides, if its Q_DIR is due
-pub passes : (l : List Earlier) (s : State) (v : ℕ) (twice : Bool) (r : Outcome)
+pub passes : (l : List Earlier) (s : State) (v : ℕ) (twice : Bool) (r : Result (Option State) Kind)
     → (rule_at s.todo.node ≡ direction → s.level ≡ Packet → collides_by clash (context_of l s) v ≡ twice) → Stepped s v twice r → Passed l s v r
 passes l s v twice r told o = record { right = o.right paper l told; goes = o.kept }

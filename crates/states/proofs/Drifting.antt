@@ -1,4 +1,5 @@
 -- What the loop goes by that goes past fields unread. Assumes nothing.
+use Rattle.std.specs.Prelude.{Some, Option}
 use mathlib.Core.Bool.{Bool, true, cond}
 use mathlib.Core.Path.{◌≡◌, sym, ap, ap₂, ◌∙◌, subst}
 use Prim.Native.Nat.{ℕ, ◌+◌, ◌-◌, ◌≤◌, ◌<◌}
@@ -6,8 +7,6 @@ use native.Mathlib.Omega.{arith}
 use borrow.Author.Tests.{eq-eqb, ne_eqb, eqb-true, ltb-true}
 use Rattle.bits.specs.Take.{skip_at}
 use Rattle.bits.specs.declared.Cursor.{Cursor}
-use Rattle.bits.specs.declared.Skipped.{Skipped}
-use Rattle.bits.specs.declared.Skipped.TheVariants.{To}
 use Rattle.bits.proofs.Fields.{IsPast, skipped}
 use Rattle.format.specs.Table.{act, jump, rest, field_at}
 use Rattle.format.proofs.Rests.{send_free}
@@ -42,7 +41,7 @@ pub drifting_first : {n : ℕ} {t : Todo} {at : ℕ} → Tidy t → Drifting n t
 drifting_first d = record { drifted = nothing; tidy = d; few = omega arith }
 
 module _ {n : ℕ} {first : Todo} {start : ℕ} {t : Todo} {at m : ℕ} (i : Drifting n first start t at m)
-    {w : ℕ} (ew : w ≡ (field_at t.node).width) {r : Skipped} (e : r ≡ skip_at n w at) {next : Cursor} (h : r ≡ To next) where
+    {w : ℕ} (ew : w ≡ (field_at t.node).width) {r : Option Cursor} (e : r ≡ skip_at n w at) {next : Cursor} (h : r ≡ Some next) where
   gone : IsPast n w at next.at
   gone = skipped n w at next (sym e ∙ h)
 

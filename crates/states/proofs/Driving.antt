@@ -1,5 +1,6 @@
 -- What a loop that drives the machine goes by, whatever its source: `Drives`, what holds where a field begins, kept by each turn, and
 -- the answer where the loop ends. Assumes nothing.
+use Rattle.std.specs.Prelude.{Ok, Some, None, Err, Option}
 use mathlib.Core.Path.{◌≡◌, refl, sym, ap, ◌∙◌, subst}
 use mathlib.Core.List.{List, [], ◌∷◌, ◌++◌}
 use Prim.Native.Nat.{ℕ, ◌+◌, ◌≤◌, ◌<◌}
@@ -24,11 +25,10 @@ use Rattle.laws.proofs.Tile.{bits_more, values_more}
 use Rattle.laws.proofs.Turns.{pushes, pushes_ended, pushes_stopped, pushes_one, one_mark, one_broken, one_lacking, one_field_bounds}
 use Rattle.states.specs.Machine.{todo_of, context_of, view, next_of, earlier_after, Sound, Beginning}
 use Rattle.states.specs.declared.State.{State}
-use Rattle.states.specs.declared.Outcome.{Outcome}
-use Rattle.states.specs.declared.Outcome.TheVariants.{Go, Over, Breaks}
 use Rattle.states.proofs.Directions.{Passed}
 use Rattle.states.proofs.Moves.{due_right}
 use Rattle.format.specs.Rules as rules
+use Rattle.std.specs.Prelude as code
 
 -- ---- the place of a refusal
 
@@ -137,26 +137,26 @@ module _ (source : rules.State → List ℕ → Taken) (part : Entry → List �
           → result ≡ refused (record { kind = k; place = place })
       refused_lacking {k} e {place} pl = stops k place pl (drive_lacking here xs k e)
 
-      module _ {v : ℕ} {ys : List ℕ} (e : source here xs ≡ got v ys) {out : Outcome} (o : Passed i.earlier st v out) where
+      module _ {v : ℕ} {ys : List ℕ} (e : source here xs ≡ got v ys) {out : code.Result (Option State) Kind} (o : Passed i.earlier st v out) where
         entry_width : (entry here v).field.width ≡ (field_at st.todo.node).width
         entry_width = width_named (todo_of st.todo) v ∙ rw due_is
 
         step_is : step paper here v ≡ next_of (earlier_after i.earlier st v) out
         step_is = o.right
 
-        pub refused_broken : {k : Kind} → out ≡ Breaks k → {place : ℕ} → ((l : List Earlier) → place ≡ field_place k (view l st))
+        pub refused_broken : {k : Kind} → out ≡ Err k → {place : ℕ} → ((l : List Earlier) → place ≡ field_place k (view l st))
             → result ≡ refused (record { kind = k; place = place })
         refused_broken {k} b {place} pl =
             stops k place pl (drive_broken here xs ys v k e (step_is ∙ ap (next_of (earlier_after i.earlier st v)) b))
 
-        over_is : out ≡ Over → step paper here v ≡ over
+        over_is : out ≡ (Ok None) → step paper here v ≡ over
         over_is b = step_is ∙ ap (next_of (earlier_after i.earlier st v)) b
 
-        marked : out ≡ Over → result ≡ whole paper (ended (i.entries ++ (entry here v ∷ [])) here ys)
+        marked : out ≡ (Ok None) → result ≡ whole paper (ended (i.entries ++ (entry here v ∷ [])) here ys)
         marked b =
             ends _ (drive_mark here xs ys v e (over_is b)) ∙ ap (whole paper) (pushes_ended i.entries (entry here v ∷ []) here ys)
 
-        pub accepted_mark : out ≡ Over → ys ≡ [] → result ≡ accepted (i.entries ++ (entry here v ∷ []))
+        pub accepted_mark : out ≡ (Ok None) → ys ≡ [] → result ≡ accepted (i.entries ++ (entry here v ∷ []))
         accepted_mark b z = marked b ∙ rw z
 
         -- its values and its bits
@@ -171,13 +171,13 @@ module _ (source : rules.State → List ℕ → Taken) (part : Entry → List �
         trailing [] h = absurd (omega arith)
         trailing (z ∷ zs) h = refl
 
-        pub refused_trailing : out ≡ Over → 0 < length ys → {place : ℕ} → ((l : List Earlier) → place ≡ field_place Trailing (view l st))
+        pub refused_trailing : out ≡ (Ok None) → 0 < length ys → {place : ℕ} → ((l : List Earlier) → place ≡ field_place Trailing (view l st))
             → result ≡ refused (record { kind = Trailing; place = place })
         refused_trailing b h {place} pl = marked b ∙ trailing ys h ∙ rw (pl i.earlier)
 
         -- ---- where it goes on
 
-        module _ {after : State} (g : out ≡ Go after) where
+        module _ {after : State} (g : out ≡ Ok (Some after)) where
           kept : Sound after × (after.at ≡ st.at + (field_at st.todo.node).width)
           kept = rw g at o.goes
 

@@ -1,4 +1,5 @@
 -- The second run of the reader: what it has stored, and that the fields it takes are the entries of the telegram. Assumes nothing.
+use Rattle.std.specs.Prelude.{Some, Option, ℕ, None}
 use mathlib.Core.Path.{◌≡◌, refl, sym, ap, ◌∙◌}
 use mathlib.Core.List.{List, [], ◌∷◌, ◌++◌, append-nil, append_assoc}
 use Prim.Native.Nat.{ℕ, suc, ◌+◌, ◌<◌, ◌≤◌}
@@ -10,8 +11,6 @@ use lib.Seq.{set_split, take-suc-set, drop-set-lt}
 use Rattle.bits.specs.Bits.{bits_of}
 use Rattle.bits.specs.Take.{taken_at}
 use Rattle.bits.specs.declared.Cursor.{Cursor}
-use Rattle.bits.specs.declared.Taken.{Taken}
-use Rattle.bits.specs.declared.Taken.TheVariants.{Field}
 use Rattle.format.specs.Rules.{paper}
 use Rattle.format.specs.Table.{field_at}
 use Rattle.format.specs.Telegrams.{Entry, bits, values, Telegram}
@@ -22,8 +21,6 @@ use Rattle.states.specs.Machine.{Advanced}
 use Rattle.states.specs.Filling.{Filling, Filled}
 use Rattle.states.specs.Reader.{values_over}
 use Rattle.states.specs.declared.Todo.{Todo}
-use Rattle.states.specs.declared.Ahead.{Ahead}
-use Rattle.states.specs.declared.Ahead.TheVariants.{On, Mark}
 use Rattle.states.proofs.Taking.{along_first, value_is, along_next, next_at}
 use Rattle.states.proofs.Runs.{stored, rest_due, values_front, positive, low, nothing_left}
 
@@ -92,19 +89,19 @@ module _ {s : List ℕ} {n : ℕ} {before out : List ℕ} {t : Todo} {at i : ℕ
     pub in_out : i < length out
     in_out = omega (arith, low o ew, positive o ew, g.count, g.size, g.room)
 
-    module _ {r : Taken} (er : r ≡ taken_at s n w at) {v : ℕ} {d : Cursor} (ed : r ≡ Field v d) where
+    module _ {r : Option (ℕ × Cursor)} (er : r ≡ taken_at s n w at) {v : ℕ} {d : Cursor} (ed : r ≡ Some (v, d)) where
       values_left : values g.left ≡ v ∷ values (rest_due o)
       values_left = values_front o ∙ ap (λ x. x ∷ values (rest_due o)) (sym (value_is g.along ew er ed))
 
       -- after the end mark every value is stored
-      pub fills : {x : Ahead} → Advanced t v x → x ≡ Mark → Filled s n before (set out i v)
+      pub fills : {x : Option Todo} → Advanced t v x → x ≡ None → Filled s n before (set out i v)
       fills a m =
           let ends = nothing_left o ew (value_is g.along ew er ed) a m in
           filled_by (set out i v)
           (sym (g.holds ∙ ap (λ y. stored out y i) (values_left ∙ ap (λ y. v ∷ values y) ends) ∙ stored_last out i v in_out))
 
       -- after another field the run goes on
-      pub goes_further : {x : Ahead} {u : Todo} → Advanced t v x → x ≡ On u → Going s n before (set out i v) u d.at (i + 1)
+      pub goes_further : {x : Option Todo} {u : Todo} → Advanced t v x → x ≡ Some u → Going s n before (set out i v) u d.at (i + 1)
       goes_further a m =
           record {
             entries = g.entries;

@@ -1,4 +1,5 @@
 -- The header, taken at once: the definition takes its ten fields one after the other, and comes to the same state. Assumes nothing.
+use Rattle.std.specs.Prelude.{Some, Ok}
 use mathlib.Core.List.{List}
 use mathlib.Core.Bool.{false}
 use mathlib.Core.Path.{◌≡◌, refl, sym, ◌∙◌}
@@ -7,18 +8,14 @@ use native.Mathlib.Omega.{arith}
 use lib.ListN.{length}
 use Rattle.bits.specs.Bits.{value_of}
 use Rattle.bits.specs.Take.{field_bits, taken_at}
-use Rattle.bits.specs.declared.Taken.TheVariants.{Field}
 use Rattle.bits.proofs.Fields.{IsField, taken, take_part, take_whole}
 use Rattle.format.specs.Rules.{begun}
 use Rattle.format.specs.Table.{row_at, act, field_at, code_of, low_of, high_of, words}
 use Rattle.format.proofs.Rows.{header_at}
 use Rattle.states.specs.Heads.{pig_in, total_in, dup_in, behind, Fronted}
 use Rattle.states.specs.Machine.{context_of, Slight, Advanced, Sound, Judged, Entered, Beginning}
-use Rattle.states.specs.declared.Outcome.TheVariants.{Go}
 use Rattle.states.specs.declared.Level.TheVariants.{Header}
 use Rattle.states.specs.declared.State.{State}
-use Rattle.states.specs.declared.Ahead.TheVariants.{On}
-use Rattle.states.specs.declared.Verdict.TheVariants.{Fine}
 use Rattle.states.proofs.Advancing.{advances_next, advances_end}
 use Rattle.states.proofs.Directions.{away_not}
 use Rattle.states.proofs.Idling.{slight_free}
@@ -62,7 +59,7 @@ module _ (s : List ℕ) (n : ℕ) (rows : List ℕ) (low : n ≤ 830) (wide : n 
   At st count = Scans s n rows st (record { at = st.at }) count
 
   -- past a field of which nothing is kept, before another
-  goes : {k x p count v : ℕ} (w : ℕ) → At (in_header x k p) count → w ≡ (field_at k).width → taken_at s n w x ≡ Field v (record { at = x + w })
+  goes : {k x p count v : ℕ} (w : ℕ) → At (in_header x k p) count → w ≡ (field_at k).width → taken_at s n w x ≡ Some (v, record { at = x + w })
       → Slight k v → act k ≡ 2 → act (k + 1) ≡ 2 → At (in_header (x + w) (k + 1) p) (count + 1)
   goes {k} {x} {p} {v = v} w i ew e q f g =
       let m : act (k + 1) ≡ 0 → ⊥ = λ h. omega arith in
@@ -90,14 +87,14 @@ module _ (s : List ℕ) (n : ℕ) (rows : List ℕ) (low : n ≤ 830) (wide : n 
 
   -- N_PIG, which is kept
 
-  judged_pig : Judged (in_header 9 4 0) (pig_in a) false Fine
+  judged_pig : Judged (in_header 9 4 0) (pig_in a) false (Ok tt)
   unfolding row_at
   judged_pig p l h = judge_free p (context_of l (in_header 9 4 0)) (field_at 4) (pig_in a) (omega arith)
 
-  takes_pig : taken_at s n 3 9 ≡ Field (pig_in a) (record { at = 12 })
+  takes_pig : taken_at s n 3 9 ≡ Some (pig_in a, record { at = 12 })
   takes_pig = take_part s n 9 3 13 0 a (pig_in a) 25 whole (omega arith) refl
 
-  enters_pig : Entered (in_header 9 4 0) (pig_in a) (Go (in_header 12 5 (pig_in a)))
+  enters_pig : Entered (in_header 9 4 0) (pig_in a) (Ok (Some (in_header 12 5 (pig_in a))))
   unfolding row_at
   enters_pig =
       entered_on (in_header 9 4 0) (pig_in a) (in_header 12 5 0).todo (with_pig (in_header 9 4 0) (pig_in a)) 12 _
@@ -113,14 +110,14 @@ module _ (s : List ℕ) (n : ℕ) (rows : List ℕ) (low : n ≤ 830) (wide : n 
   abbrev s5 : State
   s5 = in_header 12 5 (pig_in a)
 
-  judged_total : Judged s5 (total_in a) false Fine
+  judged_total : Judged s5 (total_in a) false (Ok tt)
   unfolding row_at
   judged_total p l h = total_fits (pig_in a) (total_in a) o.ordered ∙ judge_total p (context_of l s5) (field_at 5) (total_in a) refl
 
-  takes_total : taken_at s n 3 12 ≡ Field (total_in a) (record { at = 15 })
+  takes_total : taken_at s n 3 12 ≡ Some (total_in a, record { at = 15 })
   takes_total = take_part s n 12 3 10 0 a (total_in a) 25 whole (omega arith) refl
 
-  enters_total : Entered s5 (total_in a) (Go (in_header 15 6 (pig_in a)))
+  enters_total : Entered s5 (total_in a) (Ok (Some (in_header 15 6 (pig_in a))))
   unfolding row_at
   enters_total =
       entered_on s5 (total_in a) (in_header 15 6 0).todo s5 15 _
@@ -141,7 +138,7 @@ module _ (s : List ℕ) (n : ℕ) (rows : List ℕ) (low : n ≤ 830) (wide : n 
       (in_range 6 (dup_in a) refl (omega arith) o.single) refl refl
 
   -- a field inside the first 50 bits
-  any : (w x : ℕ) → w ≤ 64 → x + w ≤ 50 → taken_at s n w x ≡ Field (value_of (field_bits s w x)) (record { at = x + w })
+  any : (w x : ℕ) → w ≤ 64 → x + w ≤ 50 → taken_at s n w x ≡ Some (value_of (field_bits s w x), record { at = x + w })
   any w x l h = take_whole s n w x l (omega (arith, o.room)) wide
 
   after_count : At (in_header 25 8 (pig_in a)) 7
@@ -164,15 +161,15 @@ module _ (s : List ℕ) (n : ℕ) (rows : List ℕ) (low : n ≤ 830) (wide : n 
   abbrev link : ℕ
   link = value_of (field_bits s 1 49)
 
-  judged_link : Judged s10 link false Fine
+  judged_link : Judged s10 link false (Ok tt)
   unfolding row_at
   judged_link p l h = judge_free p (context_of l s10) (field_at 10) link (omega arith)
 
-  to_end : Advanced s10.todo link (On (in_header 50 11 0).todo)
+  to_end : Advanced s10.todo link (Some (in_header 50 11 0).todo)
   unfolding row_at
   to_end = advances_end s10.todo link after_group.drives.sound.tidy refl refl refl
 
-  enters_link : Entered s10 link (Go (behind a))
+  enters_link : Entered s10 link (Ok (Some (behind a)))
   unfolding row_at
   enters_link =
       entered_on s10 link (in_header 50 11 0).todo s10 50 _ to_end
@@ -180,7 +177,7 @@ module _ (s : List ℕ) (n : ℕ) (rows : List ℕ) (low : n ≤ 830) (wide : n 
       (settled_fresh (in_header 50 11 (pig_in a)) (record { tidy = to_end.tidy; first = omega arith; second = omega arith }) refl
       (λ l. sym (closes_header (in_header 50 11 (pig_in a)) 50 l refl)))
 
-  takes_link : taken_at s n 1 49 ≡ Field link (record { at = 50 })
+  takes_link : taken_at s n 1 49 ≡ Some (link, record { at = 50 })
   takes_link = any 1 49 (omega arith) (omega arith)
 
   after_link : At (behind a) 10

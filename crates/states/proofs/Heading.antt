@@ -1,5 +1,6 @@
 -- A packet's head, taken at once, and that of the CTCS packet inside one: the definition takes NID_PACKET or NID_XUSER, Q_DIR and L_PACKET one
 -- after the other, and comes to the same state. Assumes nothing.
+use Rattle.std.specs.Prelude.{Some, Ok, None, Option}
 use mathlib.Core.Bool.{false}
 use mathlib.Core.List.{List}
 use mathlib.Core.Logic.{⊎_elim, inl, inr}
@@ -9,7 +10,6 @@ use native.Mathlib.Nat.{add-zero}
 use native.Mathlib.Omega.{arith}
 use Rattle.bits.specs.Take.{taken_at}
 use Rattle.bits.specs.declared.Cursor.{Cursor}
-use Rattle.bits.specs.declared.Taken.TheVariants.{Field}
 use Rattle.bits.proofs.Fields.{IsField, taken, take_part}
 use Rattle.format.specs.Fields.{NID_XUSER}
 use Rattle.format.specs.Table.{act, field_at, code_of, etcs_row, ctcs_row}
@@ -19,13 +19,9 @@ use Rattle.format.proofs.Rows.{next_in, etcs_in, ctcs_in, none_act, nest_field, 
 use Rattle.states.specs.Heads.{opened, Opened, Headed, nested, Nested, Inward, Led}
 use Rattle.states.specs.Machine.{reached, context_of, Advanced, Noted, Sound, Judged, Entered}
 use Rattle.states.specs.Lookback.{id_in, dir_in, long_in}
-use Rattle.states.specs.declared.Begun.{Begun}
-use Rattle.states.specs.declared.Outcome.TheVariants.{Go}
 use Rattle.states.specs.declared.Level.TheVariants.{Packet, User}
 use Rattle.states.specs.declared.State.{State}
 use Rattle.states.specs.declared.Todo.{Todo}
-use Rattle.states.specs.declared.Ahead.TheVariants.{On}
-use Rattle.states.specs.declared.Verdict.TheVariants.{Fine}
 use Rattle.states.proofs.Advancing.{advances_to, advances_inside, advances_next}
 use Rattle.states.proofs.Directions.{Passed, away_not, away_elsewhere, not_user, passes}
 use Rattle.states.proofs.LookedBack.{looks_back}
@@ -34,7 +30,6 @@ use Rattle.states.proofs.Scanning.{Scans, scans_on, scans_fine}
 use Rattle.states.proofs.Senses.{rule_direction, judge_free, judge_packet, judge_user, judge_direction, packet_some, user_some, direction_once, direction_same}
 use Rattle.states.proofs.Stepping.{settled_goes, entered_on, stepped_goes}
 use Rattle.format.specs.Fields as fields
-use Rattle.states.specs.declared.Begun.TheVariants as begun
 
 -- the rows of a head and the one behind them are in the table
 pub head_inside : (k : ℕ) → k < 213 → code_of (field_at k).sense ≡ 9 → k + 2 < 213
@@ -47,7 +42,7 @@ head_inside k l e =
 -- past the L_PACKET of a head, of which n is noted
 module _ {s : List ℕ} {n : ℕ} {rows : List ℕ} {st : State} {c : Cursor} {count : ℕ} (i : Scans s n rows st c count)
     (plain : act st.todo.node ≡ 2) (size : code_of (field_at st.todo.node).sense ≡ 3) (more : act (st.todo.node + 1) ≡ 0 → ⊥)
-    {v : ℕ} {next : Cursor} (h : taken_at s n 13 c.at ≡ Field v next) {m : State} (notes : Noted st 3 v m) where
+    {v : ℕ} {next : Cursor} (h : taken_at s n 13 c.at ≡ Some (v, next)) {m : State} (notes : Noted st 3 v m) where
   abbrev ahead : Todo
   ahead = record { node = st.todo.node + 1; left = st.todo.left; outer = st.todo.outer }
 
@@ -60,7 +55,7 @@ module _ {s : List ℕ} {n : ℕ} {rows : List ℕ} {st : State} {c : Cursor} {c
   past_size : IsField s n 13 c.at v next.at
   past_size = taken s n 13 c.at v next h
 
-  to_more : Advanced st.todo v (On ahead)
+  to_more : Advanced st.todo v (Some ahead)
   to_more = advances_next st.todo v i.drives.sound.tidy plain more
 
   sound_after : Sound after
@@ -72,9 +67,9 @@ module _ {s : List ℕ} {n : ℕ} {rows : List ℕ} {st : State} {c : Cursor} {c
         second = omega (arith, notes.second d.second, past_size.past, i.here);
       }
 
-  enters : Entered st v (Go after)
+  enters : Entered st v (Ok (Some after))
   enters =
-      entered_on st v ahead m next.at (Go after) to_more (subst (λ (x : ℕ). Noted st x v m) (sym size) notes)
+      entered_on st v ahead m next.at (Ok (Some after)) to_more (subst (λ (x : ℕ). Noted st x v m) (sym size) notes)
       (rw (← thirteen) (omega (arith, past_size.past, i.here))) (settled_goes after sound_after more)
 
   pub scans_size : Scans s n rows after next (count + 1)
@@ -107,7 +102,7 @@ module _ {s : List ℕ} {n : ℕ} {rows : List ℕ} {st : State} {c : Cursor} {c
   eight : 8 ≡ (field_at st.todo.node).width
   eight = sym (packet_width st.todo.node i.drives.sound.tidy.inside is_packet)
 
-  takes_id : taken_at s n 8 c.at ≡ Field (id_in a) (record { at = st.at + 8 })
+  takes_id : taken_at s n 8 c.at ≡ Some (id_in a, record { at = st.at + 8 })
   takes_id =
       rw i.here (rw add-zero at (take_part s n 0 8 15 st.at a (id_in a) _ whole (omega arith) (omega (arith, whole.small))))
 
@@ -117,22 +112,22 @@ module _ {s : List ℕ} {n : ℕ} {rows : List ℕ} {st : State} {c : Cursor} {c
   abbrev s1 : State
   s1 = record { at = st.at + 8; todo = record { node = k; left = 0; outer = 0 }; level = Packet; start = st.start; id = id_in a; dir = 0; long = 0; userstart = 0; userlong = 0; pig = st.pig }
 
-  to_packet : Advanced st.todo (id_in a) (On s1.todo)
+  to_packet : Advanced st.todo (id_in a) (Some s1.todo)
   unfolding etcs_start
   to_packet = advances_to st.todo (id_in a) i.drives.sound.tidy (etcs_start (id_in a)) refl (ap act z ∙ none_act) row_some
 
   sound1 : Sound s1
   sound1 = record { tidy = to_packet.tidy; first = omega (arith, i.drives.sound.first); second = omega arith }
 
-  judged1 : Judged st (id_in a) false Fine
+  judged1 : Judged st (id_in a) false (Ok tt)
   judged1 p l h = packet_some (id_in a) row_some ∙ judge_packet p (context_of l st) (field_at st.todo.node) (id_in a) is_packet
 
   not_nine1 : code_of (field_at st.todo.node).sense ≡ 9 → ⊥
   not_nine1 e = omega (arith, is_packet)
 
-  enters1 : Entered st (id_in a) (Go s1)
+  enters1 : Entered st (id_in a) (Ok (Some s1))
   enters1 =
-      entered_on st (id_in a) s1.todo (in_packet st (id_in a)) (st.at + 8) (Go s1) to_packet
+      entered_on st (id_in a) s1.todo (in_packet st (id_in a)) (st.at + 8) (Ok (Some s1)) to_packet
       (subst (λ (x : ℕ). Noted st x (id_in a) (in_packet st (id_in a))) (sym is_packet) (packet_opens st (id_in a))) (rw (← eight))
       (settled_goes s1 sound1 (λ e. omega (arith, rows_there.direction)))
 
@@ -144,40 +139,40 @@ module _ {s : List ℕ} {n : ℕ} {rows : List ℕ} {st : State} {c : Cursor} {c
   two : 2 ≡ (field_at k).width
   two = sym (direction_width k inside o.known)
 
-  takes_dir : taken_at s n 2 (st.at + 8) ≡ Field (dir_in a) (record { at = st.at + 10 })
+  takes_dir : taken_at s n 2 (st.at + 8) ≡ Some (dir_in a, record { at = st.at + 10 })
   takes_dir = let e : st.at + 8 + 2 ≡ st.at + 10 = omega arith in rw (← e) (take_part s n 8 2 13 st.at a (dir_in a) _ whole (omega arith) (omega arith))
 
   abbrev s2 : State
   s2 = record { at = st.at + 10; todo = record { node = k + 1; left = 0; outer = 0 }; level = Packet; start = st.start; id = id_in a; dir = dir_in a; long = 0; userstart = 0; userlong = 0; pig = st.pig }
 
-  to_size : Advanced s1.todo (dir_in a) (On s2.todo)
+  to_size : Advanced s1.todo (dir_in a) (Some s2.todo)
   to_size = advances_next s1.todo (dir_in a) sound1.tidy rows_there.direction (λ e. omega (arith, rows_there.next))
 
   sound2 : Sound s2
   sound2 = record { tidy = to_size.tidy; first = omega (arith, i.drives.sound.first); second = omega arith }
 
-  judged2 : Judged s1 (dir_in a) false Fine
+  judged2 : Judged s1 (dir_in a) false (Ok tt)
   judged2 p l h =
       direction_once p (context_of l s1) (dir_in a) o.allowed refl (h (rule_direction (field_at k) o.known) refl)
       ∙ judge_direction p (context_of l s1) (field_at k) (dir_in a) o.known
 
-  enters2 : Entered s1 (dir_in a) (Go s2)
+  enters2 : Entered s1 (dir_in a) (Ok (Some s2))
   enters2 =
-      entered_on s1 (dir_in a) s2.todo (with_dir s1 (dir_in a)) (st.at + 10) (Go s2) to_size
+      entered_on s1 (dir_in a) s2.todo (with_dir s1 (dir_in a)) (st.at + 10) (Ok (Some s2)) to_size
       (subst (λ (x : ℕ). Noted s1 x (dir_in a) (with_dir s1 (dir_in a))) (sym o.known) (dir_packet s1 (dir_in a) refl)) (rw (← two) (omega arith))
       (settled_goes s2 sound2 (λ e. omega (arith, rows_there.next)))
 
-  passed2 : Passed scans1.drives.earlier s1 (dir_in a) (Go s2)
+  passed2 : Passed scans1.drives.earlier s1 (dir_in a) (Ok (Some s2))
   passed2 =
-      passes scans1.drives.earlier s1 (dir_in a) false (Go s2) (λ k l. looks_back scans1 (dir_in a) k l o.alone)
-      (stepped_goes s1 (dir_in a) false sound1 (Go s2) judged2 enters2)
+      passes scans1.drives.earlier s1 (dir_in a) false (Ok (Some s2)) (λ k l. looks_back scans1 (dir_in a) k l o.alone)
+      (stepped_goes s1 (dir_in a) false sound1 (Ok (Some s2)) judged2 enters2)
 
   scans2 : Scans s n rows s2 (record { at = st.at + 10 }) (count + 1 + 1)
   scans2 = scans_on scans1 two refl takes_dir passed2 refl
 
   -- L_PACKET
 
-  takes_long : taken_at s n 13 (st.at + 10) ≡ Field (long_in a) (record { at = st.at + 23 })
+  takes_long : taken_at s n 13 (st.at + 10) ≡ Some (long_in a, record { at = st.at + 23 })
   takes_long = let e : st.at + 10 + 13 ≡ st.at + 23 = omega arith in rw (← e) (take_part s n 10 13 0 st.at a (long_in a) _ whole (omega arith) (omega arith))
 
   last_row : k + 1 + 1 ≡ k + 2
@@ -224,7 +219,7 @@ module _ {s : List ℕ} {n : ℕ} {rows : List ℕ} {st : State} {c : Cursor} {c
   is_user : code_of (field_at st.todo.node).sense ≡ 8
   is_user = ap (λ (f : fields.Field). code_of f.sense) due_user
 
-  takes_user : taken_at s n 9 c.at ≡ Field (id_in b) (record { at = st.at + 9 })
+  takes_user : taken_at s n 9 c.at ≡ Some (id_in b, record { at = st.at + 9 })
   takes_user =
       rw i.here (rw add-zero at (take_part s n 0 9 15 st.at b (id_in b) _ all (omega arith) (omega (arith, all.small))))
 
@@ -234,16 +229,16 @@ module _ {s : List ℕ} {n : ℕ} {rows : List ℕ} {st : State} {c : Cursor} {c
   abbrev t1 : State
   t1 = record { at = st.at + 9; todo = record { node = j; left = 0; outer = 0 }; level = User; start = st.start; id = st.id; dir = st.dir; long = st.long; userstart = st.at; userlong = 0; pig = st.pig }
 
-  to_user : Advanced st.todo (id_in b) (On t1.todo)
+  to_user : Advanced st.todo (id_in b) (Some t1.todo)
   unfolding ctcs_start
   to_user = advances_inside st.todo (id_in b) i.drives.sound.tidy (ctcs_start (id_in b)) refl z
 
   firm1 : Sound t1
   firm1 = let d = i.drives.sound in record { tidy = to_user.tidy; first = omega (arith, d.first); second = omega arith }
 
-  comes1 : Entered st (id_in b) (Go t1)
+  comes1 : Entered st (id_in b) (Ok (Some t1))
   comes1 =
-      entered_on st (id_in b) t1.todo (in_user st) (st.at + 9) (Go t1) to_user
+      entered_on st (id_in b) t1.todo (in_user st) (st.at + 9) (Ok (Some t1)) to_user
       (subst (λ (x : ℕ). Noted st x (id_in b) (in_user st)) (sym is_user) (user_opens st (id_in b))) (rw (← nine))
       (settled_goes t1 firm1 (λ e. omega (arith, rows_here.direction)))
 
@@ -257,21 +252,21 @@ module _ {s : List ℕ} {n : ℕ} {rows : List ℕ} {st : State} {c : Cursor} {c
   both : 2 ≡ (field_at j).width
   both = sym (direction_width j in_table o.known)
 
-  takes_way : taken_at s n 2 (st.at + 9) ≡ Field (dir_in b) (record { at = st.at + 11 })
+  takes_way : taken_at s n 2 (st.at + 9) ≡ Some (dir_in b, record { at = st.at + 11 })
   takes_way = let e : st.at + 9 + 2 ≡ st.at + 11 = omega arith in rw (← e) (take_part s n 9 2 13 st.at b (dir_in b) _ all (omega arith) (omega arith))
 
   abbrev t2 : State
   t2 = record { at = st.at + 11; todo = record { node = j + 1; left = 0; outer = 0 }; level = User; start = st.start; id = st.id; dir = st.dir; long = st.long; userstart = st.at; userlong = 0; pig = st.pig }
 
-  to_length : Advanced t1.todo (dir_in b) (On t2.todo)
+  to_length : Advanced t1.todo (dir_in b) (Some t2.todo)
   to_length = advances_next t1.todo (dir_in b) firm1.tidy rows_here.direction (λ e. omega (arith, rows_here.next))
 
   firm2 : Sound t2
   firm2 = let d = i.drives.sound in record { tidy = to_length.tidy; first = omega (arith, d.first); second = omega arith }
 
-  comes2 : Entered t1 (dir_in b) (Go t2)
+  comes2 : Entered t1 (dir_in b) (Ok (Some t2))
   comes2 =
-      entered_on t1 (dir_in b) t2.todo t1 (st.at + 11) (Go t2) to_length
+      entered_on t1 (dir_in b) t2.todo t1 (st.at + 11) (Ok (Some t2)) to_length
       (subst (λ (x : ℕ). Noted t1 x (dir_in b) t1) (sym o.known) (dir_user t1 (dir_in b) refl)) (rw (← both) (omega arith))
       (settled_goes t2 firm2 (λ e. omega (arith, rows_here.next)))
 
@@ -283,7 +278,7 @@ module _ {s : List ℕ} {n : ℕ} {rows : List ℕ} {st : State} {c : Cursor} {c
 
   -- L_PACKET
 
-  takes_length : taken_at s n 13 (st.at + 11) ≡ Field (long_in b) (record { at = st.at + 24 })
+  takes_length : taken_at s n 13 (st.at + 11) ≡ Some (long_in b, record { at = st.at + 24 })
   takes_length = let e : st.at + 11 + 13 ≡ st.at + 24 = omega arith in rw (← e) (take_part s n 11 13 0 st.at b (long_in b) _ all (omega arith) (omega arith))
 
   behind_row : j + 1 + 1 ≡ j + 2
@@ -303,16 +298,16 @@ module _ {s : List ℕ} {n : ℕ} {rows : List ℕ} {st : State} {c : Cursor} {c
 -- ---- either of the two
 
 module _ (s : List ℕ) (n : ℕ) (st : State) where
-  pub led_packet : (b : Begun) → st.todo.node ≡ 0 → Headed s n st b → Led s n st b
-  led_packet (begun.To r) e o = inl (e, o)
-  led_packet begun.Not e o = tt
+  pub led_packet : (b : Option State) → st.todo.node ≡ 0 → Headed s n st b → Led s n st b
+  led_packet (Some r) e o = inl (e, o)
+  led_packet None e o = tt
 
-  pub led_inner : (b : Begun) → (st.todo.node ≡ 0 → ⊥) → act st.todo.node ≡ 1 → Inward s n st b → Led s n st b
-  led_inner (begun.To r) e z o = inr (e, z, o)
-  led_inner begun.Not e z o = tt
+  pub led_inner : (b : Option State) → (st.todo.node ≡ 0 → ⊥) → act st.todo.node ≡ 1 → Inward s n st b → Led s n st b
+  led_inner (Some r) e z o = inr (e, z, o)
+  led_inner None e z o = tt
 
 module _ {s : List ℕ} {n : ℕ} {rows : List ℕ} {st : State} {c : Cursor} {count : ℕ} (i : Scans s n rows st c count)
-    {r : State} (o : Led s n st (begun.To r)) where
+    {r : State} (o : Led s n st (Some r)) where
   pub scans_led : Scans s n rows r (record { at = r.at }) (count + 3)
   scans_led = ⊎_elim (λ w. scans_headed i w.0 w.1) (λ w. scans_nested i w.1 w.2) o
 

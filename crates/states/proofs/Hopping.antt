@@ -1,4 +1,5 @@
 -- Looking back over bits: one hop, and where the hops end. Assumes nothing.
+use Rattle.std.specs.Prelude.{Some, None, Option, ℕ}
 use mathlib.Core.Bool.{Bool, true, false, ◌&&◌, ◌||◌}
 use mathlib.Core.List.{List, [], ◌∷◌}
 use mathlib.Core.Path.{◌≡◌, refl, sym, ap, ◌∙◌}
@@ -9,9 +10,6 @@ use native.Mathlib.Omega.{arith}
 use lib.Dec.{eqb}
 use Rattle.bits.specs.Take.{taken_at, skip_at}
 use Rattle.bits.specs.declared.Cursor.{Cursor}
-use Rattle.bits.specs.declared.Taken.{Taken}
-use Rattle.bits.specs.declared.Taken.TheVariants.{Field, Short}
-use Rattle.bits.specs.declared.Skipped.TheVariants.{To, Lacking}
 use Rattle.bits.proofs.Fields.{IsField, taken, take_past, skip_whole, skipped}
 use Rattle.format.specs.Rules.{clash, among}
 use Rattle.laws.proofs.Recalled.{among_none, among_more}
@@ -20,13 +18,13 @@ use Rattle.states.specs.Lookback.{packets_before, id_in, dir_in, long_in, hopped
 -- ---- one hop
 
 -- no head is there
-pub hopped_short : (k : ℕ) (s : List ℕ) (stop at : ℕ) → taken_at s stop 23 at ≡ Short → hopped k s stop at ≡ []
+pub hopped_short : (k : ℕ) (s : List ℕ) (stop at : ℕ) → taken_at s stop 23 at ≡ None → hopped k s stop at ≡ []
 unfolding hopped
 hopped_short zero s stop at e = refl
 hopped_short (suc k) s stop at e = rw e
 
 -- a head is there
-pub hopped_head : (k : ℕ) (s : List ℕ) (stop at a : ℕ) (c : Cursor) → taken_at s stop 23 at ≡ Field a c
+pub hopped_head : (k : ℕ) (s : List ℕ) (stop at a : ℕ) (c : Cursor) → taken_at s stop 23 at ≡ Some (a, c)
     → hopped (suc k) s stop at ≡ record { id = id_in a; dir = dir_in a } ∷ hopped k s stop (c.at + (long_in a - 23))
 unfolding hopped
 hopped_head k s stop at a c e = rw e
@@ -42,12 +40,12 @@ pub record Hopping (s : List ℕ) (stop id dir at : ℕ) : Type 0 where
 pub hopping_first : (s : List ℕ) (stop id dir : ℕ) → Hopping s stop id dir 50
 hopping_first s stop id dir = record { left = stop; enough = omega arith; same = refl }
 
-module _ {s : List ℕ} {stop id dir at : ℕ} (h : Hopping s stop id dir at) {t : Taken} (et : t ≡ taken_at s stop 23 at) where
+module _ {s : List ℕ} {stop id dir at : ℕ} (h : Hopping s stop id dir at) {t : Option (ℕ × Cursor)} (et : t ≡ taken_at s stop 23 at) where
   -- no packet is left
-  pub hops_end : t ≡ Short → among clash id dir (packets_before s stop) ≡ false
+  pub hops_end : t ≡ None → among clash id dir (packets_before s stop) ≡ false
   hops_end e = h.same ∙ ap (among clash id dir) (hopped_short h.left s stop at (sym et ∙ e)) ∙ among_none clash id dir
 
-  module _ {a : ℕ} {body : Cursor} (e : t ≡ Field a body) where
+  module _ {a : ℕ} {body : Cursor} (e : t ≡ Some (a, body)) where
     pub is_head : IsField s stop 23 at a body.at
     is_head = taken s stop 23 at a body (sym et ∙ e)
 
@@ -77,7 +75,7 @@ module _ {s : List ℕ} {stop id dir at : ℕ} (h : Hopping s stop id dir at) {t
       goes_by = one_hop ∙ rw m
 
       -- this one was the last
-      pub hops_past : skip_at stop (long_in a - 23) body.at ≡ Lacking → among clash id dir (packets_before s stop) ≡ false
+      pub hops_past : skip_at stop (long_in a - 23) body.at ≡ None → among clash id dir (packets_before s stop) ≡ false
       hops_past k = by_test (dec_le next stop)
         where
           by_test : Dec (next ≤ stop) → among clash id dir (packets_before s stop) ≡ false
@@ -88,7 +86,7 @@ module _ {s : List ℕ} {stop id dir at : ℕ} (h : Hopping s stop id dir at) {t
               ∙ ap (among clash id dir) (hopped_short (h.left - 1) s stop next (take_past s stop 23 next (omega arith) (omega arith)))
               ∙ among_none clash id dir
 
-      module _ {c : Cursor} (k : skip_at stop (long_in a - 23) body.at ≡ To c) where
+      module _ {c : Cursor} (k : skip_at stop (long_in a - 23) body.at ≡ Some c) where
         next_is : c.at ≡ next
         next_is = (skipped stop (long_in a - 23) body.at c k).past
 

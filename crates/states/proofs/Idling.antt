@@ -1,5 +1,6 @@
 -- A field of which nothing is kept and whose value keeps its rule: the definition's step comes to the state behind it, with nothing else
 -- changed. Assumes nothing.
+use Rattle.std.specs.Prelude.{Some, Ok, Result, Option}
 use mathlib.Core.Bool.{Bool, true, false, cond, ◌&&◌, ◌||◌}
 use mathlib.Core.List.{List}
 use mathlib.Core.Option.{none}
@@ -16,15 +17,13 @@ use Rattle.format.proofs.Rests.{field_free, Ranges, from_zero, from_one}
 use Rattle.laws.proofs.Told.{and_two}
 use Rattle.states.specs.Machine.{context_of, level_of, rule_at, Tidy, Idle, later, Slight, slight, reached, Advanced, Noted, Sound, Judged, Settled, Entered}
 use Rattle.states.specs.declared.State.{State}
-use Rattle.states.specs.declared.Outcome.{Outcome}
 use Rattle.states.specs.declared.Todo.{Todo}
-use Rattle.states.specs.declared.Ahead.TheVariants.{On}
-use Rattle.states.specs.declared.Verdict.TheVariants.{Fine}
 use Rattle.states.proofs.Advancing.{advances_next, again_field, advances_again}
 use Rattle.states.proofs.Directions.{Away, Passed, away_not, passes}
 use Rattle.states.proofs.Noting.{nothing}
 use Rattle.states.proofs.Senses.{judge_free, judge_range, range_in}
 use Rattle.states.proofs.Stepping.{entered_on, stepped_goes}
+use Rattle.format.specs.declared.Kind.{Kind}
 
 -- what follows a field that steers nothing, and that it is a field
 module _ (t : Todo) (d : Tidy t) (i : Idle t) (v : ℕ) where
@@ -32,7 +31,7 @@ module _ (t : Todo) (d : Tidy t) (i : Idle t) (v : ℕ) where
   k = t.node + 1
 
   abbrev Follows : Todo → Type 0
-  Follows u = Advanced t v (On u) × (act u.node ≡ 0 → ⊥)
+  Follows u = Advanced t v (Some u) × (act u.node ≡ 0 → ⊥)
 
   by_test : (b : Bool) → eqb (act k) 0 ≡ b
       → Follows (cond b (record { node = jump k + 1; left = t.left - 1; outer = t.outer }) (record { node = k; left = t.left; outer = t.outer }))
@@ -47,7 +46,7 @@ module _ (t : Todo) (d : Tidy t) (i : Idle t) (v : ℕ) where
   idle_ahead = by_test (eqb (act k) 0) refl
 
 -- a value that keeps its rule, where no packet's Q_DIR is due
-pub fine_passed : (s : State) → Sound s → (v : ℕ) → Judged s v false Fine → Away s → {r : Outcome} → Entered s v r → (l : List Earlier)
+pub fine_passed : (s : State) → Sound s → (v : ℕ) → Judged s v false (Ok tt) → Away s → {r : Result (Option State) Kind} → Entered s v r → (l : List Earlier)
     → Passed l s v r
 fine_passed s d v j away {r} e l = passes l s v false r (λ k h. absurd (away k h)) (stepped_goes s v false d r j e)
 
@@ -81,7 +80,7 @@ module _ (k v : ℕ) (l : k < 213) where
           let o = ltb-false (rest k) 10 z in
           by_one (omega arith) (leb-true v (rest k % 16) d.0) (ltb (rest k) 48) refl d.1
 
-module _ (s : State) (d : Sound s) (v : ℕ) (q : Slight s.todo.node v) {u : Todo} (a : Advanced s.todo v (On u))
+module _ (s : State) (d : Sound s) (v : ℕ) (q : Slight s.todo.node v) {u : Todo} (a : Advanced s.todo v (Some u))
     {x : ℕ} (ex : x ≡ s.at + (field_at s.todo.node).width) where
   abbrev code : ℕ
   code = code_of (field_at s.todo.node).sense
@@ -101,10 +100,10 @@ module _ (s : State) (d : Sound s) (v : ℕ) (q : Slight s.todo.node v) {u : Tod
   pub sound_after : Sound after
   sound_after = record { tidy = a.tidy; first = omega (arith, d.first); second = omega (arith, d.second) }
 
-  pub slight_entered : {r : Outcome} → Settled after r → Entered s v r
+  pub slight_entered : {r : Result (Option State) Kind} → Settled after r → Entered s v r
   slight_entered {r} t = entered_on s v u s x r a notes ex t
 
-  pub slight_judged : Judged s v false Fine
+  pub slight_judged : Judged s v false (Ok tt)
   slight_judged p l h = by (dec_le 3 code)
     where
       by : Dec (3 ≤ code) → none ≡ broken p (context_of l s) (rule_at s.todo.node) v

@@ -11,9 +11,9 @@ use Rattle.format.specs.Fields.{NID_PACKET}
 use Rattle.format.specs.Packets.{◌⧺◌, times, header, etcs, ctcs, find}
 use Rattle.format.specs.Rules.{begun, next, misdirected, broken, noted, closes, settled, onward, step, radio_from, spot_of, spot_at, place_from, field_place, clash, among, collides_by, paper}
 use Rattle.format.specs.Telegrams.{Result, write, from_values, drive}
-use Rattle.format.specs.declared.Answer.{Answer}
 use Rattle.states.specs.Labels.{numbers_in, label_into, numbers_over, Label}
 use Rattle.states.proofs.WriterCheats.{one, unended}
+use Rattle.format.specs.Refusals.{Answer}
 
 -- numbers enough, all 0
 abbrev lent : List ℕ

@@ -1,27 +1,24 @@
 -- The second run of `label`: the number that it stores for each value is that of the entry's field. And `label` by the tests that it makes.
 -- Assumes nothing.
+use Rattle.std.specs.Prelude.{Ok, Err, Some, None, Option}
 use mathlib.Core.Path.{◌≡◌, refl, sym, ap, ◌∙◌}
 use mathlib.Core.List.{List, ◌∷◌, ◌++◌}
 use Prim.Native.Nat.{ℕ, ◌+◌, ◌≤◌, ◌<◌}
 use native.Mathlib.Nat.{add-zero}
 use native.Mathlib.Omega.{arith}
 use lib.ListN.{length, drop, get_or, set, length-set}
-use Rattle.format.specs.Refusals.{in_numbers}
+use Rattle.format.specs.Refusals.{in_numbers, Answer}
 use Rattle.format.specs.Rules.{paper, named}
 use Rattle.format.specs.Telegrams.{Entry, bit_count, write}
 use Rattle.format.specs.Telegrams.Result.{accepted}
 use Rattle.format.specs.declared.Kind.TheVariants.{Room}
 use Rattle.format.specs.declared.Refusal.{Refusal}
-use Rattle.format.specs.declared.Answer.{Answer}
-use Rattle.format.specs.declared.Answer.TheVariants.{Accepted, Refused}
 use Rattle.states.specs.Along.{Onward}
 use Rattle.states.specs.Labels.{numbers_in, numbers, label_into, numbers_over, Label, Labelling, Labelled, number_at}
 use Rattle.states.specs.Machine.{Advanced}
 use Rattle.states.specs.Reader.{early}
 use Rattle.states.specs.Writer.{size_of}
 use Rattle.states.specs.declared.Todo.{Todo}
-use Rattle.states.specs.declared.Ahead.{Ahead}
-use Rattle.states.specs.declared.Ahead.TheVariants.{On, Mark}
 use Rattle.states.proofs.Checking.{was_refused}
 use Rattle.states.proofs.Filling.{stored_more, stored_last}
 use Rattle.states.proofs.Moves.{named_right}
@@ -82,9 +79,9 @@ module _ {vs before out : List ℕ} {t : Todo} {i : ℕ} (g : Naming vs before o
     unfolding numbers_in
     numbers_left = ap numbers (held o.run).front ∙ ap (λ x. x ∷ numbers (rest_due o)) number_is
 
-    module _ {x : Ahead} (a : Advanced t (get_or vs i 0) x) where
+    module _ {x : Option Todo} (a : Advanced t (get_or vs i 0) x) where
       -- after the end mark every number is stored, whichever telegram it is that has these values
-      pub labels : x ≡ Mark → Labelled vs before (set out i r)
+      pub labels : x ≡ None → Labelled vs before (set out i r)
       labels m es tel same =
           sym
           (g.holds
@@ -93,7 +90,7 @@ module _ {vs before out : List ℕ} {t : Todo} {i : ℕ} (g : Naming vs before o
           ∙ ap (λ (l : List Entry). numbers_over (accepted l) before) (sym (one_telegram g.valued es tel same))
 
       -- after another field the run goes on
-      pub names_on : {u : Todo} → x ≡ On u → Naming vs before (set out i r) u (i + 1)
+      pub names_on : {u : Todo} → x ≡ Some u → Naming vs before (set out i r) u (i + 1)
       names_on m =
           record {
             at = _;
@@ -108,7 +105,7 @@ module _ {vs before out : List ℕ} {t : Todo} {i : ℕ} (g : Naming vs before o
 -- ---- 1, then as the writer
 
 module _ (vs before : List ℕ) where
-  pub labels_roomless : length before < 830 → Label paper vs before (Refused (early Room)) before
+  pub labels_roomless : length before < 830 → Label paper vs before (Err (early Room)) before
   unfolding label_into
   labels_roomless h = let e = without_room 830 (length before) (write paper vs) h in record { answers = rw e; contents = rw e }
 
@@ -117,10 +114,10 @@ module _ (vs before : List ℕ) where
     unfolding label_into
     into = with_room 830 (length before) (write paper vs) h
 
-    pub labels_refused : {a : Answer} {x : Refusal} → a ≡ size_of (write paper vs) → a ≡ Refused x → Label paper vs before a before
+    pub labels_refused : {a : Answer} {x : Refusal} → a ≡ size_of (write paper vs) → a ≡ Err x → Label paper vs before a before
     labels_refused {a} {x} p q = record { answers = rw into (ap in_numbers p); contents = rw (into, was_refused bit_count (write paper vs) a x p q) }
 
-    module _ {a : Answer} {n : ℕ} (p : a ≡ size_of (write paper vs)) (q : a ≡ Accepted n) where
+    module _ {a : Answer} {n : ℕ} (p : a ≡ size_of (write paper vs)) (q : a ≡ Ok n) where
       -- what is labelled is a telegram with these values
       pub labelable : Labelling vs before
       labelable =

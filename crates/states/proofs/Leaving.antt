@@ -1,6 +1,7 @@
 -- "On success, output past the last value, or past byte ceil(n/8) - 1, keeps its former contents. A refusal gives a number and a place and
 -- changes no output": of the check, which is lent no output, of the reader, the writer, `label` and the normaliser, each from its promise
 -- alone. For any terms. Assumes nothing.
+use Rattle.std.specs.Prelude.{Ok, Err}
 use mathlib.Core.List.{List, [], ◌∷◌, ◌++◌}
 use mathlib.Core.Path.{◌≡◌, refl, sym, ap, ◌∙◌}
 use Prim.Native.Nat.{ℕ, suc, ◌≤◌}
@@ -9,12 +10,10 @@ use lib.ListN.{length, take, drop, length-append}
 use lib.Seq.{length_front, length-take-le, take_at}
 use Rattle.bits.specs.Bits.{bytes_of, bytes_for}
 use Rattle.format.specs.Normal.{normal}
-use Rattle.format.specs.Refusals.{in_numbers}
+use Rattle.format.specs.Refusals.{in_numbers, Answer}
 use Rattle.format.specs.Rules.{Terms, begun}
 use Rattle.format.specs.Telegrams.{Entry, Result, Telegram, bits, bit_count, values, values_in, write}
 use Rattle.format.specs.Telegrams.Result.{accepted, refused}
-use Rattle.format.specs.declared.Answer.{Answer}
-use Rattle.format.specs.declared.Answer.TheVariants.{Accepted, Refused}
 use Rattle.format.specs.declared.Refusal.{Refusal}
 use Rattle.format.proofs.Numbers.{answer_is}
 use Rattle.laws.proofs.Demand2.{length_bits, write_is, room}
@@ -68,7 +67,7 @@ module _ {Such : List Entry → Type 0} {items : List Entry → List ℕ} {many 
 
 -- what a refusal leaves is what is over the refused
 kept : (count : List Entry → ℕ) (over : Result → List ℕ) (x : Result) {a : Answer} {r : Refusal} {after : List ℕ}
-    → a ≡ answered count x → after ≡ over x → a ≡ Refused r → after ≡ over (refused r)
+    → a ≡ answered count x → after ≡ over x → a ≡ Err r → after ≡ over (refused r)
 kept count over x {a} {r} p c q = c ∙ ap over (was_refused count x a r p q)
 
 -- a telegram has at most 830 values, and at most 104 bytes
@@ -86,10 +85,10 @@ module _ (p : Terms) (s : List ℕ) (n : ℕ) (a : Answer) (h : in_numbers a ≡
   check_answer : a ≡ answer_of (checked p s n)
   check_answer = answer_is a (answer_of (checked p s n)) h
 
-  pub check_refuses : {r : Refusal} → a ≡ Refused r → Unsound p s n r
+  pub check_refuses : {r : Refusal} → a ≡ Err r → Unsound p s n r
   check_refuses {r} e = ((check_judges p s n).refuses r).0 (was_refused (λ es. length (values es)) (checked p s n) a r check_answer e)
 
-  pub check_accepts : {count : ℕ} → a ≡ Accepted count → (es : List Entry) × Sound p s n es × (count ≡ length (values es))
+  pub check_accepts : {count : ℕ} → a ≡ Ok count → (es : List Entry) × Sound p s n es × (count ≡ length (values es))
   check_accepts {count} e =
       let w = was_accepted (λ es. length (values es)) (checked p s n) a count check_answer e in
       (w.entries, ((check_judges p s n).accepts w.entries).0 w.is, w.counted)
@@ -97,11 +96,11 @@ module _ (p : Terms) (s : List ℕ) (n : ℕ) (a : Answer) (h : in_numbers a ≡
 -- ---- the reader
 
 module _ {p : Terms} {s : List ℕ} {n : ℕ} {before after : List ℕ} {a : Answer} (h : Read p s n before a after) where
-  pub read_keeps : {r : Refusal} → a ≡ Refused r → after ≡ before
+  pub read_keeps : {r : Refusal} → a ≡ Err r → after ≡ before
   read_keeps {r} e = kept (λ es. length (values es)) (λ (x : Result). values_over x before) (read_into p s n (length before)) (read_answer h) h.contents e
 
   -- "output past the last value .. keeps its former contents"
-  pub read_stores : {count : ℕ} → a ≡ Accepted count → Stores (Sound p s n) values count 830 before after
+  pub read_stores : {count : ℕ} → a ≡ Ok count → Stores (Sound p s n) values count 830 before after
   unfolding read_into
   read_stores {count} e =
       let w = was_accepted (λ es. length (values es)) (read_into p s n (length before)) a count (read_answer h) e in
@@ -121,11 +120,11 @@ listed : (p : Terms) (vs : List ℕ) (n : ℕ) (es : List Entry) → write p vs 
 listed p vs n es e m = let t = write_is p vs es e in (t.0, t.1, m)
 
 module _ {p : Terms} {vs before after : List ℕ} {a : Answer} (h : Write p vs before a after) where
-  pub write_keeps : {r : Refusal} → a ≡ Refused r → after ≡ before
+  pub write_keeps : {r : Refusal} → a ≡ Err r → after ≡ before
   write_keeps {r} e = kept bit_count (λ (x : Result). bytes_over x before) (write_into p vs (length before)) (write_answer h) h.contents e
 
   -- "output .. past byte ceil(n/8) - 1, keeps its former contents"
-  pub write_stores : {n : ℕ} → a ≡ Accepted n → Stores (Listed p vs n) (λ es. bytes_of (bits es)) (bytes_for n) 104 before after
+  pub write_stores : {n : ℕ} → a ≡ Ok n → Stores (Listed p vs n) (λ es. bytes_of (bits es)) (bytes_for n) 104 before after
   unfolding write_into
   write_stores {n} e =
       let w = was_accepted bit_count (write_into p vs (length before)) a n (write_answer h) e in
@@ -140,10 +139,10 @@ same_length [] = refl
 same_length (e ∷ es) = ap suc (same_length es)
 
 module _ {p : Terms} {vs before after : List ℕ} {a : Answer} (h : Label p vs before a after) where
-  pub label_keeps : {r : Refusal} → a ≡ Refused r → after ≡ before
+  pub label_keeps : {r : Refusal} → a ≡ Err r → after ≡ before
   label_keeps {r} e = kept bit_count (λ (x : Result). numbers_over x before) (label_into p vs (length before)) (label_answer h) h.contents e
 
-  pub label_stores : {n : ℕ} → a ≡ Accepted n → Stores (Listed p vs n) numbers (length vs) 830 before after
+  pub label_stores : {n : ℕ} → a ≡ Ok n → Stores (Listed p vs n) numbers (length vs) 830 before after
   unfolding label_into
   label_stores {n} e =
       let w = was_accepted bit_count (label_into p vs (length before)) a n (label_answer h) e in
@@ -173,10 +172,10 @@ normal_stored p s n {before} {after} fs e c =
     )
 
 module _ {p : Terms} {s : List ℕ} {n : ℕ} {before after : List ℕ} {a : Answer} (h : Normalise p s n before a after) where
-  pub normalise_keeps : {r : Refusal} → a ≡ Refused r → after ≡ before
+  pub normalise_keeps : {r : Refusal} → a ≡ Err r → after ≡ before
   normalise_keeps {r} e = kept bit_count (λ (x : Result). bytes_over x before) (normalise_into p s n (length before)) (normalise_answer h) h.contents e
 
-  pub normalise_stores : {m : ℕ} → a ≡ Accepted m
+  pub normalise_stores : {m : ℕ} → a ≡ Ok m
       → (m ≡ n) × Stores (Sound p s n) (λ es. bytes_of (bits (normal es))) (bytes_for n) 104 before after
   normalise_stores {m} e =
       let w = was_accepted bit_count (normalise_into p s n (length before)) a m (normalise_answer h) e in

@@ -43,3 +43,4 @@ pub mod Cheats
 pub mod WriterCheats
 pub mod LabelCheats
 pub mod NormalCheats
+pub mod Once

@@ -1,4 +1,5 @@
 -- Looking back over bits finds just the packets that were sent: those that stand whole among the entries (`Whole` of the crate laws). Assumes nothing.
+use Rattle.std.specs.Prelude.{Some, Result, Option}
 use mathlib.Core.Bool.{Bool}
 use mathlib.Core.List.{List, [], ◌∷◌, ◌++◌, append_assoc, append-nil, reverse, reverse-cons}
 use mathlib.Core.Path.{◌≡◌, sym, ap, ◌∙◌}
@@ -10,7 +11,6 @@ use lib.Seq.{take_at, drop_at}
 use Rattle.bits.specs.Bits.{digits, value_of, bits_of}
 use Rattle.bits.specs.Take.{field_bits, taken_at}
 use Rattle.bits.specs.declared.Cursor.{Cursor}
-use Rattle.bits.specs.declared.Taken.TheVariants.{Field}
 use Rattle.bits.proofs.Bytes.{length_bits_of}
 use Rattle.bits.proofs.Digits.{length_digits, value_of_append, value_of_digits}
 use Rattle.bits.proofs.Fields.{take_whole, take_past}
@@ -28,7 +28,6 @@ use Rattle.laws.proofs.Whole.Whole.{front, then}
 use Rattle.states.specs.Lookback.{packets_before, id_in, dir_in, long_in, hopped, repeats}
 use Rattle.states.specs.Machine.{context_of, level_of, rule_at, Stepped}
 use Rattle.states.specs.declared.Level.TheVariants.{Packet}
-use Rattle.states.specs.declared.Outcome.{Outcome}
 use Rattle.states.specs.declared.State.{State}
 use Rattle.states.proofs.Directions.{Passed, passes, repeats_so}
 use Rattle.states.proofs.Colliding.{found_back}
@@ -36,6 +35,7 @@ use Rattle.states.proofs.Hopping.{hopped_head, hopped_short}
 use Rattle.states.proofs.Scanning.{Scans, telegram_bits, inside_take, field_is}
 use Rattle.format.specs.Fields as fields
 use Rattle.laws.proofs.Whole as whole
+use Rattle.format.specs.declared.Kind.{Kind}
 
 -- ---- over bits
 
@@ -88,15 +88,15 @@ module _ (s : List ℕ) (n : ℕ) (wide : n ≤ 8 * length s) where
         ∙ take_at head (bits body ++ ys) 23 (head_length i d m))
         ∙ head_joined i d m p.began.small p.small_dir p.small_size
 
-    head_taken : taken_at s stop 23 (bit_count b) ≡ Field ((i * 4 + d) * 8192 + m) (record { at = bit_count b + 23 })
+    head_taken : taken_at s stop 23 (bit_count b) ≡ Some ((i * 4 + d) * 8192 + m, record { at = bit_count b + 23 })
     head_taken =
         take_whole s stop 23 (bit_count b) (omega arith) h (omega arith)
-        ∙ ap (λ (a : ℕ). Field a (record { at = bit_count b + 23 })) head_value
+        ∙ ap (λ (a : ℕ). Some (a, record { at = bit_count b + 23 })) head_value
 
   -- from the header's end the hops come to where whole packets end, past each of them once, in order of sending
   module _ (stop : ℕ) (within : stop ≤ n) where
     -- one hop
-    hop : (k at a next : ℕ) {i d : ℕ} → taken_at s stop 23 at ≡ Field a (record { at = at + 23 }) → id_in a ≡ i → dir_in a ≡ d → at + 23 + (long_in a - 23) ≡ next
+    hop : (k at a next : ℕ) {i d : ℕ} → taken_at s stop 23 at ≡ Some (a, record { at = at + 23 }) → id_in a ≡ i → dir_in a ≡ d → at + 23 + (long_in a - 23) ≡ next
         → hopped (suc k) s stop at ≡ record { id = i; dir = d } ∷ hopped k s stop next
     hop k at a next e ei ed en = hopped_head k s stop at a (record { at = at + 23 }) e ∙ rw (ei, ed, en)
 
@@ -155,6 +155,6 @@ module _ {s : List ℕ} {n : ℕ} {rows : List ℕ} {st : State} {c : Cursor} {c
       found_back st.id v i.drives.earlier (ap (packets_before s) q.start ∙ whole_before s n i.wide q.whole _ fs low) e
 
   -- so a step that is told whether they collide is the definition's
-  pub scans_passed : (v : ℕ) {twice : Bool} {r : Outcome} → twice ≡ repeats st v (packets_before s st.start) → Stepped st v twice r
+  pub scans_passed : (v : ℕ) {twice : Bool} {r : Result (Option State) Kind} → twice ≡ repeats st v (packets_before s st.start) → Stepped st v twice r
       → Passed i.drives.earlier st v r
   scans_passed v {twice} {r} t o = passes i.drives.earlier st v twice r (λ k l. looks_back v k l (repeats_so st v _ k l t)) o

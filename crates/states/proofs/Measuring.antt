@@ -1,4 +1,5 @@
 -- What the loop that measures a list of values goes by: the driver over values. Assumes nothing.
+use Rattle.std.specs.Prelude.{Ok, Err, Some, None, Result, Option, ⊤}
 use mathlib.Core.Path.{◌≡◌, refl, ap, ◌∙◌}
 use mathlib.Core.Bool.{Bool, true, false, cond}
 use mathlib.Core.List.{List, [], ◌∷◌}
@@ -16,18 +17,18 @@ use Rattle.format.specs.Telegrams.Taken.{got, lacks}
 use Rattle.format.specs.Telegrams.Result.{refused}
 use Rattle.format.specs.declared.Kind.{Kind}
 use Rattle.format.specs.declared.Kind.TheVariants.{Ended, Trailing, Wide, Full}
-use Rattle.format.specs.declared.Answer.TheVariants.{Accepted}
 use Rattle.laws.proofs.Sources.{Listed, from_values_lem}
 use Rattle.states.specs.Machine.{context_of, view, Beginning}
 use Rattle.states.specs.Writer.{size_of, fitting}
 use Rattle.states.specs.declared.State.{State}
-use Rattle.states.specs.declared.Verdict.TheVariants.{Fine, Broken}
-use Rattle.states.specs.declared.Outcome.{Outcome}
-use Rattle.states.specs.declared.Outcome.TheVariants.{Go, Over, Breaks}
 use Rattle.states.proofs.Directions.{Passed}
 use Rattle.states.proofs.Driving.{placed, Drives, drives_first, due_is, refused_lacking, refused_broken, accepted_mark, refused_trailing, mark_sized, moves, drives_on}
 use Rattle.format.specs.Fields as fields
 use Rattle.format.specs.Rules as rules
+
+-- whether a value fits its field, and the field the telegram
+abbrev Fits : Type 0
+Fits = Result ⊤ Kind
 
 -- ---- the value for the field that is due
 
@@ -100,25 +101,25 @@ module _ {vs rows : List ℕ} {st : State} {i : ℕ} (m : Measures vs rows st i)
           (ap (from_values q) next_is ∙ lacks_full q (field_at st.todo.node) field_is v (drop (i + 1) vs) (rw (← ew) small) (rw (← ew) k)) (λ l. refl)
 
     module _ {end : ℕ} (past : end ≡ st.at + w) where
-      unfit : {k : Kind} (small room : Bool) → ltb v (2 ^ w) ≡ small → leb end 830 ≡ room → cond small (cond room Fine (Broken Full)) (Broken Wide) ≡ Broken k
+      unfit : {k : Kind} (small room : Bool) → ltb v (2 ^ w) ≡ small → leb end 830 ≡ room → ◌≡◌ {A = Fits} (cond {A = Fits} small (cond {A = Fits} room (Ok tt) (Err Full)) (Err Wide)) (Err k)
           → write paper vs ≡ refused (record { kind = k; place = place_from k st.at end (context_of [] st) })
       unfit {k} false room e f h = let z : Wide ≡ k = cc in rw (← z) (ends_wide e end)
       unfit {k} true false e f h = let z : Full ≡ k = cc in rw (← z) (ends_full e (rw (← past) (leb-false end 830 f)) end)
       unfit {k} true true e f h = let z : ◌≡◌ {A = ℕ} 0 1 = cc in absurd (omega arith)
 
       -- the first rule of the two that is broken
-      pub ends_unfit : {k : Kind} → fitting v w end ≡ Broken k
+      pub ends_unfit : {k : Kind} → fitting v w end ≡ Err k
           → write paper vs ≡ refused (record { kind = k; place = place_from k st.at end (context_of [] st) })
       ends_unfit h = unfit (ltb v (2 ^ w)) (leb end 830) refl refl h
 
-      both : (small room : Bool) → ltb v (2 ^ w) ≡ small → leb end 830 ≡ room → cond small (cond room Fine (Broken Full)) (Broken Wide) ≡ Fine
+      both : (small room : Bool) → ltb v (2 ^ w) ≡ small → leb end 830 ≡ room → ◌≡◌ {A = Fits} (cond {A = Fits} small (cond {A = Fits} room (Ok tt) (Err Full)) (Err Wide)) (Ok tt)
           → (ltb v (2 ^ w) ≡ true) × (st.at + w ≤ 830)
       both false room e f h = let z : ◌≡◌ {A = ℕ} 0 1 = cc in absurd (omega arith)
       both true false e f h = let z : ◌≡◌ {A = ℕ} 0 1 = cc in absurd (omega arith)
       both true true e f h = (e, rw (← past) (leb-true end 830 f))
 
       -- where both are kept
-      pub fits_both : fitting v w end ≡ Fine → (ltb v (2 ^ w) ≡ true) × (st.at + w ≤ 830)
+      pub fits_both : fitting v w end ≡ (Ok tt) → (ltb v (2 ^ w) ≡ true) × (st.at + w ≤ 830)
       fits_both h = both (ltb v (2 ^ w)) (leb end 830) refl refl h
 
     module _ (small : ltb v (2 ^ w) ≡ true) where
@@ -133,26 +134,26 @@ module _ {vs rows : List ℕ} {st : State} {i : ℕ} (m : Measures vs rows st i)
         end_is : st.at + w ≡ st.at + (field_at st.todo.node).width
         end_is = rw ew
 
-        module _ {out : Outcome} (o : Passed m.drives.earlier st v out) where
-          pub ends_broken : {k : Kind} → out ≡ Breaks k
+        module _ {out : Result (Option State) Kind} (o : Passed m.drives.earlier st v out) where
+          pub ends_broken : {k : Kind} → out ≡ Err k
               → write paper vs ≡ refused (record { kind = k; place = place_from k st.at (st.at + w) (context_of [] st) })
           unfolding write
           ends_broken b = refused_broken from_values values_in Listed from_values_lem vs m.drives has o b (placed from_values values_in Listed from_values_lem vs m.drives _ end_is)
 
-          pub ends_well : out ≡ Over → i + 1 ≡ length vs → Accepted (st.at + w) ≡ size_of (write paper vs)
+          pub ends_well : out ≡ (Ok None) → i + 1 ≡ length vs → Ok (st.at + w) ≡ size_of (write paper vs)
           unfolding write
           ends_well b z =
               let all : length vs ≤ i + 1 = omega arith in
               let none : drop (i + 1) vs ≡ [] = drop_of_length-le vs all in
               rw (accepted_mark from_values values_in Listed from_values_lem vs m.drives has o b none, mark_sized from_values values_in Listed from_values_lem vs m.drives has o, ew)
 
-          pub ends_trailing : out ≡ Over → (i + 1 ≡ length vs → ⊥)
+          pub ends_trailing : out ≡ (Ok None) → (i + 1 ≡ length vs → ⊥)
               → write paper vs ≡ refused (record { kind = Trailing; place = place_from Trailing st.at (st.at + w) (context_of [] st) })
           unfolding write
           ends_trailing b z =
               refused_trailing from_values values_in Listed from_values_lem vs m.drives has o b (rw length-drop (omega arith)) (placed from_values values_in Listed from_values_lem vs m.drives Trailing end_is)
 
-          pub measures_on : {after : State} → out ≡ Go after → Measures vs rows after (i + 1)
+          pub measures_on : {after : State} → out ≡ Ok (Some after) → Measures vs rows after (i + 1)
           measures_on g = record {
             drives = drives_on from_values values_in Listed from_values_lem vs m.drives has o g;
             within = omega arith;

@@ -1,5 +1,6 @@
 -- Normalisers that cheat, and for each a telegram at which its answer, or what it leaves in the lent bytes, does not meet the promise: the
 -- checker computes what the definitions answer there. Assumes nothing.
+use Rattle.std.specs.Prelude.{Ok}
 use mathlib.Core.List.{List, [], ◌∷◌, ◌++◌}
 use mathlib.Core.Logic.{◌≢◌}
 use mathlib.Core.Path.{◌≡◌, refl, sym, ap, ◌∙◌}
@@ -10,12 +11,10 @@ use lib.Seq.{take-add}
 use Rattle.bits.specs.Bits.{digits, value_of, bits_of, bytes_of, packed, filled}
 use Rattle.format.specs.Normal.{metric, normal_under}
 use Rattle.format.specs.Packets.{◌⧺◌, times, header, etcs, ctcs, find}
-use Rattle.format.specs.Refusals.{in_numbers}
+use Rattle.format.specs.Refusals.{in_numbers, Answer}
 use Rattle.format.specs.Rules.{begun, next, misdirected, broken, noted, closes, settled, onward, step, radio_from, spot_of, spot_at, place_from, field_place, clash, among, collides_by, paper}
 use Rattle.format.specs.Telegrams.{Entry, Result, read, from_bits, drive, bits_in}
 use Rattle.format.specs.Telegrams.Result.{accepted, refused}
-use Rattle.format.specs.declared.Answer.{Answer}
-use Rattle.format.specs.declared.Answer.TheVariants.{Accepted}
 use Rattle.laws.proofs.Prefix.{bits_no_prefix}
 use Rattle.states.specs.Reader.{checked}
 use Rattle.states.specs.Writer.{size_of, bytes_over}
@@ -49,7 +48,7 @@ metres = reversing (0x20 ∷ 0x7D ∷ 0x00 ∷ 0x96 ∷ 0x7F ∷ 0x80 ∷ [])
 abbrev tenths : List ℕ
 tenths = reversing (0x00 ∷ 0x3E ∷ 0x81 ∷ 0xFB ∷ 0xFF ∷ 0x80 ∷ [])
 
-answer : size_of (normalise_into paper tens 137 104) ≡ Accepted 137
+answer : size_of (normalise_into paper tens 137 104) ≡ Ok 137
 unfolding computed
 answer = refl
 
@@ -71,7 +70,7 @@ unfolding computed bits_in bytes_of packed filled
 tenths_stay = refl
 
 -- an honest one meets the promise there
-pub honest : Normalise paper tens 137 lent (Accepted 137) (over metres)
+pub honest : Normalise paper tens 137 lent (Ok 137) (over metres)
 honest = record { answers = sym (ap in_numbers answer); contents = sym tens_become }
 
 -- ---- one that copies its input
@@ -131,5 +130,5 @@ tells_nothing a h =
 
 -- ---- one that invents n
 
-pub tells_another_n : (n : ℕ) (after : List ℕ) → n ≢ 137 → Normalise paper tens 137 lent (Accepted n) after → ⊥
+pub tells_another_n : (n : ℕ) (after : List ℕ) → n ≢ 137 → Normalise paper tens 137 lent (Ok n) after → ⊥
 tells_another_n n after d h = let e = normalise_answer h ∙ answer in d cc

@@ -1,5 +1,6 @@
 -- A second run along a telegram in hand: it follows the rows alone, and each field that they lead to is the telegram's next entry. Assumes
 -- nothing.
+use Rattle.std.specs.Prelude.{Some, None, Option}
 use mathlib.Core.Path.{◌≡◌, refl, sym, ap, ◌∙◌, subst}
 use mathlib.Core.List.{List, [], ◌∷◌, ◌++◌}
 use mathlib.Core.Option.{some, none}
@@ -20,8 +21,6 @@ use Rattle.laws.proofs.Steps.{go_next, over_mark}
 use Rattle.states.specs.Along.{Onward}
 use Rattle.states.specs.Machine.{todo_of, items_of, TidyOn, Advanced}
 use Rattle.states.specs.declared.Todo.{Todo}
-use Rattle.states.specs.declared.Ahead.{Ahead}
-use Rattle.states.specs.declared.Ahead.TheVariants.{On, Mark}
 use Rattle.states.proofs.Moves.{due_right, start_todo}
 use Rattle.states.proofs.Stepping.{width_in}
 
@@ -130,20 +129,20 @@ module _ {t : Todo} {at : ℕ} {left : List Entry} (o : Onward t at left) where
         ∙ ap (λ x. x ++ bits rest_due) (bits_in_entry o.state value_due ∙ ap (λ k. digits k value_due) width_due)
 
     -- what the rows say is next, with the entry's value, is what is
-    module _ {v : ℕ} (ev : v ≡ value_due) {x : Ahead} (a : Advanced t v x) where
+    module _ {v : ℕ} (ev : v ≡ value_due) {x : Option Todo} (a : Advanced t v x) where
       items_next : next o.state.todo value_due ≡ items_of x
       items_next = ap (λ y. next y value_due) o.todo ∙ ap (next (todo_of t)) (sym ev) ∙ a.items
 
       -- the mark is the last
-      pub nothing_left : x ≡ Mark → rest_due ≡ []
+      pub nothing_left : x ≡ None → rest_due ≡ []
       nothing_left m = (held o.run).mark (items_next ∙ ap items_of m)
 
       -- it is due where packets are
-      pub at_end : x ≡ Mark → o.state.todo ≡ end
+      pub at_end : x ≡ None → o.state.todo ≡ end
       at_end m = (held o.run).ends (items_next ∙ ap items_of m)
 
       -- and else the rest is left
-      pub onward_next : {u : Todo} → x ≡ On u → Onward u (at + w) rest_due
+      pub onward_next : {u : Todo} → x ≡ Some u → Onward u (at + w) rest_due
       onward_next {u} m =
           let go = (held o.run).goes (todo_of u) (items_next ∙ ap items_of m) in
           record {

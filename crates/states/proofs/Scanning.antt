@@ -1,4 +1,5 @@
 -- What the loop that checks a telegram goes by: the driver over bits, through the cursor. Assumes nothing.
+use Rattle.std.specs.Prelude.{Some, None, Option, ℕ, Ok, Err, Result}
 use mathlib.Core.Path.{◌≡◌, refl, sym, ap, ◌∙◌, subst}
 use mathlib.Core.Bool.{true, false}
 use mathlib.Core.List.{List, []}
@@ -12,8 +13,6 @@ use lib.Seq.{take-add, take-take, drop-drop, drop_at, length-take-le}
 use Rattle.bits.specs.Bits.{value_of, bits_of}
 use Rattle.bits.specs.Take.{field_bits, taken_at}
 use Rattle.bits.specs.declared.Cursor.{Cursor}
-use Rattle.bits.specs.declared.Taken.{Taken}
-use Rattle.bits.specs.declared.Taken.TheVariants.{Field, Short}
 use Rattle.bits.proofs.Bytes.{length_bits_of, below_bits_of, below_take}
 use Rattle.bits.proofs.Fields.{IsField, taken, take_whole}
 use Rattle.format.specs.Rules.{Earlier, begun, closes, paper, spot_of, spot_at, place_from, field_place}
@@ -23,17 +22,12 @@ use Rattle.format.specs.Telegrams.Taken.{got, lacks}
 use Rattle.format.specs.Telegrams.Result.{refused}
 use Rattle.format.specs.declared.Kind.{Kind}
 use Rattle.format.specs.declared.Kind.TheVariants.{Ended, Trailing}
-use Rattle.format.specs.declared.Answer.TheVariants.{Accepted}
 use Rattle.laws.proofs.Sources.{Sent, from_bits_lem, width_positive}
 use Rattle.states.specs.Machine.{view, context_of, level_of, Beginning, Sound, Advanced, later, Drifted, Slight, reached, fresh_at, Judged, Settled, Entered}
 use Rattle.states.specs.Machine.Drifted.{nothing, field}
 use Rattle.states.specs.Reader.{answer_of}
 use Rattle.states.specs.declared.State.{State}
 use Rattle.states.specs.declared.Todo.{Todo}
-use Rattle.states.specs.declared.Ahead.TheVariants.{On}
-use Rattle.states.specs.declared.Verdict.TheVariants.{Fine}
-use Rattle.states.specs.declared.Outcome.{Outcome}
-use Rattle.states.specs.declared.Outcome.TheVariants.{Go, Over, Breaks}
 use Rattle.states.proofs.Stepping.{width_in, settled_goes, settled_fresh}
 use Rattle.states.proofs.Directions.{Away, Passed}
 use Rattle.states.proofs.Driving.{placed, Drives, drives_first, due_is, refused_lacking, refused_broken, accepted_mark, refused_trailing, mark_counted, moves, drives_on}
@@ -42,7 +36,7 @@ use Rattle.format.specs.Fields as fields
 use Rattle.format.specs.Rules as rules
 
 -- a field cannot be both taken and not
-pub never_short : {A : Type 0} (t : Taken) (v : ℕ) (c : Cursor) → t ≡ Short → t ≡ Field v c → A
+pub never_short : {A : Type 0} (t : Option (ℕ × Cursor)) (v : ℕ) (c : Cursor) → t ≡ None → t ≡ Some (v, c) → A
 never_short t v c p q = let z : ◌≡◌ {A = ℕ} 0 1 = cc in absurd (omega arith)
 
 -- ---- the bits that are still to be read
@@ -110,7 +104,7 @@ pub field_is : {s : List ℕ} {n : ℕ} {rows : List ℕ} {st : State} {c : Curs
 field_is {s} {n} i = due_is from_bits bits_in Sent from_bits_lem (telegram_bits s n) i.drives
 
 module _ {s : List ℕ} {n : ℕ} {rows : List ℕ} {st : State} {c : Cursor} {count : ℕ} (i : Scans s n rows st c count)
-    {w : ℕ} (ew : w ≡ (field_at st.todo.node).width) {t : Taken} (e : t ≡ taken_at s n w c.at) where
+    {w : ℕ} (ew : w ≡ (field_at st.todo.node).width) {t : Option (ℕ × Cursor)} (e : t ≡ taken_at s n w c.at) where
   abbrev bs : List ℕ
   bs = telegram_bits s n
 
@@ -121,7 +115,7 @@ module _ {s : List ℕ} {n : ℕ} {rows : List ℕ} {st : State} {c : Cursor} {c
   length_rest = rw (length-drop st.at bs, length_telegram s n i.wide)
 
   -- no whole field is left
-  lacks_field : t ≡ Short → from_bits q (drop st.at bs) ≡ lacks Ended
+  lacks_field : t ≡ None → from_bits q (drop st.at bs) ≡ lacks Ended
   lacks_field h = by (dec_le (c.at + w) n)
     where
       by : Dec (c.at + w ≤ n) → from_bits q (drop st.at bs) ≡ lacks Ended
@@ -130,12 +124,12 @@ module _ {s : List ℕ} {n : ℕ} {rows : List ℕ} {st : State} {c : Cursor} {c
           let l = lt_of_not-le k in
           lacks_bits q (field_at st.todo.node) (drop st.at bs) (field_is i) (rw length_rest (omega (arith, i.here, i.within)))
 
-  pub ends_short : t ≡ Short → (end : ℕ)
+  pub ends_short : t ≡ None → (end : ℕ)
       → read paper bs ≡ refused (record { kind = Ended; place = place_from Ended st.at end (context_of [] st) })
   unfolding read field_place place_from spot_of spot_at
   ends_short h end = refused_lacking from_bits bits_in Sent from_bits_lem bs i.drives (lacks_field h) (λ l. refl)
 
-  module _ {v : ℕ} {next : Cursor} (h : t ≡ Field v next) where
+  module _ {v : ℕ} {next : Cursor} (h : t ≡ Some (v, next)) where
     is_field : IsField s n w c.at v next.at
     is_field = taken s n w c.at v next (sym e ∙ h)
 
@@ -158,21 +152,21 @@ module _ {s : List ℕ} {n : ℕ} {rows : List ℕ} {st : State} {c : Cursor} {c
     next_is : next.at ≡ st.at + (field_at st.todo.node).width
     next_is = is_field.past ∙ rw (i.here, ew)
 
-    module _ {out : Outcome} (o : Passed i.drives.earlier st v out) where
-      pub ends_broken : {k : Kind} → out ≡ Breaks k
+    module _ {out : Result (Option State) Kind} (o : Passed i.drives.earlier st v out) where
+      pub ends_broken : {k : Kind} → out ≡ Err k
           → read paper bs ≡ refused (record { kind = k; place = place_from k st.at next.at (context_of [] st) })
       unfolding read
       ends_broken b =
           refused_broken from_bits bits_in Sent from_bits_lem bs i.drives has_field o b (placed from_bits bits_in Sent from_bits_lem bs i.drives _ next_is)
 
-      pub ends_well : out ≡ Over → next.at ≡ n → Accepted (count + 1) ≡ answer_of (read paper bs)
+      pub ends_well : out ≡ (Ok None) → next.at ≡ n → Ok (count + 1) ≡ answer_of (read paper bs)
       unfolding read
       ends_well b z =
           let whole : length bs ≤ st.at + w = rw (length_telegram s n i.wide) (omega (arith, is_field.past, i.here)) in
           let all_read : drop (st.at + w) bs ≡ [] = drop_of_length-le bs whole in
           rw (accepted_mark from_bits bits_in Sent from_bits_lem bs i.drives has_field o b all_read, mark_counted from_bits bits_in Sent from_bits_lem bs i.drives has_field o)
 
-      pub ends_trailing : out ≡ Over → (next.at ≡ n → ⊥)
+      pub ends_trailing : out ≡ (Ok None) → (next.at ≡ n → ⊥)
           → read paper bs ≡ refused (record { kind = Trailing; place = place_from Trailing st.at next.at (context_of [] st) })
       unfolding read
       ends_trailing b z =
@@ -180,7 +174,7 @@ module _ {s : List ℕ} {n : ℕ} {rows : List ℕ} {st : State} {c : Cursor} {c
           rw (length-drop, length_telegram s n i.wide) (omega (arith, is_field.past, is_field.within, i.here)) in
           refused_trailing from_bits bits_in Sent from_bits_lem bs i.drives has_field o b rest (placed from_bits bits_in Sent from_bits_lem bs i.drives Trailing next_is)
 
-      module _ {after : State} (g : out ≡ Go after) where
+      module _ {after : State} (g : out ≡ Ok (Some after)) where
         at_is : after.at ≡ st.at + w
         at_is = rw ew (moves from_bits bits_in Sent from_bits_lem bs i.drives has_field o g)
 
@@ -205,18 +199,18 @@ scans_here i = record { low = i.low; wide = i.wide; drives = i.drives; here = re
 
 -- past a value that keeps its rule, where no packet's Q_DIR is due
 module _ {s : List ℕ} {n : ℕ} {rows : List ℕ} {st : State} {c : Cursor} {count : ℕ} (i : Scans s n rows st c count)
-    {w : ℕ} (ew : w ≡ (field_at st.todo.node).width) {t : Taken} (e : t ≡ taken_at s n w c.at) {v : ℕ} {next : Cursor} (h : t ≡ Field v next) where
-  pub scans_fine : Judged st v false Fine → Away st → {r : State} → Entered st v (Go r)
+    {w : ℕ} (ew : w ≡ (field_at st.todo.node).width) {t : Option (ℕ × Cursor)} (e : t ≡ taken_at s n w c.at) {v : ℕ} {next : Cursor} (h : t ≡ Some (v, next)) where
+  pub scans_fine : Judged st v false (Ok tt) → Away st → {r : State} → Entered st v (Ok (Some r))
       → Scans s n rows r next (count + 1)
   scans_fine j away a =
       scans_on i ew e h (fine_passed st i.drives.sound v j away a i.drives.earlier) refl
 
   -- and of which nothing is kept
-  module _ (q : Slight st.todo.node v) {u : Todo} (a : Advanced st.todo v (On u)) where
+  module _ (q : Slight st.todo.node v) {u : Todo} (a : Advanced st.todo v (Some u)) where
     ends_at : next.at ≡ st.at + (field_at st.todo.node).width
     ends_at = let g = is_field i ew e h in omega (arith, g.past, i.here)
 
-    scans_past : {r : State} → Settled (reached st next.at u) (Go r) → Scans s n rows r next (count + 1)
+    scans_past : {r : State} → Settled (reached st next.at u) (Ok (Some r)) → Scans s n rows r next (count + 1)
     scans_past z =
         scans_fine (slight_judged st i.drives.sound v q a ends_at) (slight_not st i.drives.sound v q a ends_at)
         (slight_entered st i.drives.sound v q a ends_at z)

@@ -1,4 +1,5 @@
 -- One field: what the machine answers is what the definition of a step gives. Assumes nothing.
+use Rattle.std.specs.Prelude.{Some, None, Ok, Err, Result, Option}
 use mathlib.Core.Path.{◌≡◌, refl, ◌∙◌, sym, ap}
 use mathlib.Core.Bool.{Bool, true, false, cond, ◌&&◌}
 use mathlib.Core.List.{List}
@@ -14,11 +15,7 @@ use Rattle.format.specs.declared.Kind.{Kind}
 use Rattle.format.specs.declared.Kind.TheVariants.{Length}
 use Rattle.states.specs.Machine.{todo_of, fresh_at, context_of, level_of, rule_at, Advanced, Noted, Judged, Sound, Settled, Entered, Stepped}
 use Rattle.states.specs.declared.Todo.{Todo}
-use Rattle.states.specs.declared.Ahead.TheVariants.{On, Mark}
 use Rattle.states.specs.declared.State.{State}
-use Rattle.states.specs.declared.Outcome.{Outcome}
-use Rattle.states.specs.declared.Outcome.TheVariants.{Go, Over, Breaks}
-use Rattle.states.specs.declared.Verdict.TheVariants.{Fine, Broken}
 use Rattle.states.proofs.Moves.{todo_end, goes_on, none_left, due_right}
 use Rattle.states.proofs.Senses.{sense_is}
 
@@ -34,7 +31,7 @@ width_in f = leb→le f.width 64 (and_right (leb 1 f.width) (leb f.width 64) f.s
 -- ---- a packet's end
 
 module _ (s : State) (d : Sound s) where
-  pub settled_goes : (act s.todo.node ≡ 0 → ⊥) → Settled s (Go s)
+  pub settled_goes : (act s.todo.node ≡ 0 → ⊥) → Settled s (Ok (Some s))
   settled_goes h =
       record { right = λ l. goes_on s.todo.node s.todo.left s.todo.outer h s.at (context_of l s); kept = (d, refl) }
 
@@ -47,11 +44,11 @@ module _ (s : State) (d : Sound s) where
     unfolding settled
     settled_by b l e = rw (at_end, e)
 
-    pub settled_breaks : ((l : List Earlier) → closes s.at (context_of l s) (level_of s.level) ≡ false) → Settled s (Breaks Length)
+    pub settled_breaks : ((l : List Earlier) → closes s.at (context_of l s) (level_of s.level) ≡ false) → Settled s (Err Length)
     settled_breaks h = record { right = λ l. settled_by false l (h l); kept = tt }
 
     pub settled_fresh : ((l : List Earlier) → closes s.at (context_of l s) (level_of s.level) ≡ true)
-        → Settled s (Go (fresh_at s.at s.pig))
+        → Settled s (Ok (Some (fresh_at s.at s.pig)))
     unfolding row_at
     settled_fresh h = record {
       right = λ l. settled_by true l (h l) ∙ rw none_left;
@@ -61,7 +58,7 @@ module _ (s : State) (d : Sound s) where
 -- ---- a value that keeps its rule
 
 module _ (s : State) (v : ℕ) where
-  pub entered_mark : Advanced s.todo v Mark → Entered s v Over
+  pub entered_mark : Advanced s.todo v None → Entered s v (Ok None)
   unfolding onward
   entered_mark a = record { right = λ l. rw a.items; kept = tt }
 
@@ -69,7 +66,7 @@ module _ (s : State) (v : ℕ) where
   abbrev sent : State → Todo → ℕ → State
   sent n t e = record { at = e; todo = t; level = n.level; start = n.start; id = n.id; dir = n.dir; long = n.long; userstart = n.userstart; userlong = n.userlong; pig = n.pig }
 
-  pub entered_on : (t : Todo) (n : State) (e : ℕ) (r : Outcome) → Advanced s.todo v (On t)
+  pub entered_on : (t : Todo) (n : State) (e : ℕ) (r : Result (Option State) Kind) → Advanced s.todo v (Some t)
       → Noted s (code_of (field_at s.todo.node).sense) v n → e ≡ s.at + (field_at s.todo.node).width
       → Settled (sent n t e) r → Entered s v r
   unfolding onward
@@ -90,10 +87,10 @@ module _ (s : State) (v : ℕ) (twice : Bool) (d : Sound s) where
   field_is : (l : List Earlier) → due (todo_of s.todo) ≡ field_at s.todo.node
   field_is l = sym (due_right s.todo d.tidy)
 
-  pub stepped_breaks : (k : Kind) → Judged s v twice (Broken k) → Stepped s v twice (Breaks k)
+  pub stepped_breaks : (k : Kind) → Judged s v twice (Err k) → Stepped s v twice (Err k)
   unfolding step
   stepped_breaks k j = record { right = λ p l h. rw (field_is l, ← (j p l h)); kept = tt }
 
-  pub stepped_goes : (r : Outcome) → Judged s v twice Fine → Entered s v r → Stepped s v twice r
+  pub stepped_goes : (r : Result (Option State) Kind) → Judged s v twice (Ok tt) → Entered s v r → Stepped s v twice r
   unfolding step
   stepped_goes r j e = record { right = λ p l h. rw (field_is l, ← (j p l h)) (e.right l); kept = e.kept }

@@ -1,4 +1,5 @@
 -- The second run of the writer: the values that it goes over are the telegram's. Assumes nothing.
+use Rattle.std.specs.Prelude.{Some, None, Option}
 use mathlib.Core.Path.{◌≡◌, refl, sym, ap, ◌∙◌}
 use mathlib.Core.List.{List}
 use mathlib.Core.Bool.{Bool}
@@ -14,8 +15,6 @@ use Rattle.states.specs.Along.{Onward}
 use Rattle.states.specs.Machine.{Advanced}
 use Rattle.states.specs.Writer.{bytes_over, Storing, Stored}
 use Rattle.states.specs.declared.Todo.{Todo}
-use Rattle.states.specs.declared.Ahead.{Ahead}
-use Rattle.states.specs.declared.Ahead.TheVariants.{On, Mark}
 use Rattle.states.proofs.Laying.{Laid, laid_first, laid_whole, laid_on}
 use Rattle.states.proofs.Runs.{value_due, rest_due, nothing_left}
 use Rattle.states.proofs.Valued.{Valued, valued_first, valued_next, value_is, one_telegram}
@@ -44,7 +43,7 @@ module _ {vs : List ℕ} {n : ℕ} {out : List ℕ} (s : Storing vs n out) where
 -- the value is put
 module _ {vs : List ℕ} {n : ℕ} {base out : List ℕ} {t : Todo} {at i : ℕ} (g : Laying vs n base out t at i)
     {w : ℕ} (ew : w ≡ (field_at t.node).width) {wrote : Bool} {after : List ℕ} (p : Put out at w (get_or vs i 0) wrote after)
-    {x : Ahead} (a : Advanced t (get_or vs i 0) x) where
+    {x : Option Todo} (a : Advanced t (get_or vs i 0) x) where
   abbrev o : Onward t at g.left
   o = g.valued.onward
 
@@ -52,13 +51,13 @@ module _ {vs : List ℕ} {n : ℕ} {base out : List ℕ} {t : Todo} {at i : ℕ}
   ev = value_is g.valued
 
   -- after the end mark the bytes are the telegram's, whichever it is that has these values
-  pub stores : x ≡ Mark → (before : List ℕ) → Below 256 before → base ≡ set before ((n - 1) / 8) 0 → Stored vs before after
+  pub stores : x ≡ None → (before : List ℕ) → Below 256 before → base ≡ set before ((n - 1) / 8) 0 → Stored vs before after
   stores m before b e es tel same =
       laid_whole g.laid o ew ev p (nothing_left o ew ev a m) before b e
       ∙ ap (λ (l : List Entry). bytes_over (accepted l) before) (sym (one_telegram g.valued es tel same))
 
   -- after another field the run goes on
-  pub lays_on : {u : Todo} → x ≡ On u → Laying vs n base after u (at + w) (i + 1)
+  pub lays_on : {u : Todo} → x ≡ Some u → Laying vs n base after u (at + w) (i + 1)
   lays_on m =
       record {
         entries = g.entries;

@@ -1,4 +1,5 @@
 -- A second run that takes its fields from the bits: each is whole, and is the telegram's next entry. Assumes nothing.
+use Rattle.std.specs.Prelude.{Some, None, Option, ℕ}
 use mathlib.Core.Path.{◌≡◌, sym, ap, ◌∙◌, subst}
 use mathlib.Core.List.{List, ◌++◌}
 use Prim.Native.Nat.{ℕ, ◌+◌, ◌-◌, ◌*◌, ◌^◌, ◌<◌, ◌≤◌}
@@ -8,8 +9,6 @@ use lib.Seq.{take_at, drop_at, length-take-le, take-add, take-take, drop-drop}
 use Rattle.bits.specs.Bits.{digits, value_of, bits_of}
 use Rattle.bits.specs.Take.{field_bits, taken_at}
 use Rattle.bits.specs.declared.Cursor.{Cursor}
-use Rattle.bits.specs.declared.Taken.{Taken}
-use Rattle.bits.specs.declared.Taken.TheVariants.{Field, Short}
 use Rattle.bits.proofs.Bytes.{length_bits_of}
 use Rattle.bits.proofs.Digits.{length_digits, value_of_digits}
 use Rattle.bits.proofs.Fields.{IsField, taken, take_whole}
@@ -19,8 +18,6 @@ use Rattle.format.specs.Telegrams.{Entry, bits, Telegram}
 use Rattle.states.specs.Along.{Onward, Along}
 use Rattle.states.specs.Machine.{Advanced}
 use Rattle.states.specs.declared.Todo.{Todo}
-use Rattle.states.specs.declared.Ahead.{Ahead}
-use Rattle.states.specs.declared.Ahead.TheVariants.{On}
 use Rattle.states.proofs.Runs.{onward_first, value_due, rest_due, bits_front, positive, narrow, small, onward_next}
 
 -- ---- the bits in front
@@ -71,14 +68,14 @@ module _ {s : List ℕ} {n : ℕ} {t : Todo} {at : ℕ} {left : List Entry} (a :
     inside = front_within s n at w (value_due o) (bits (rest_due o)) a.within (positive o ew) ahead_front
 
     -- what taking the field answers
-    module _ {r : Taken} (er : r ≡ taken_at s n w at) where
+    module _ {r : Option (ℕ × Cursor)} (er : r ≡ taken_at s n w at) where
       -- a whole field is there
-      pub never_short : r ≡ Short → ⊥
+      pub never_short : r ≡ None → ⊥
       never_short e =
           let h = take_whole s n w at (narrow o ew) inside a.within in
           let z : ◌≡◌ {A = ℕ} 0 1 = cc in omega arith
 
-      module _ {v : ℕ} {d : Cursor} (ed : r ≡ Field v d) where
+      module _ {v : ℕ} {d : Cursor} (ed : r ≡ Some (v, d)) where
         is_field : IsField s n w at v d.at
         is_field = taken s n w at v d (sym er ∙ ed)
 
@@ -96,7 +93,7 @@ module _ {s : List ℕ} {n : ℕ} {t : Todo} {at : ℕ} {left : List Entry} (a :
             ∙ front_value s n at w (value_due o) (bits (rest_due o)) a.within (positive o ew) ahead_front (small o ew)
 
         -- after another field than the mark the run goes on
-        pub along_next : {x : Ahead} {u : Todo} → Advanced t v x → x ≡ On u → Along s n u d.at (rest_due o)
+        pub along_next : {x : Option Todo} {u : Todo} → Advanced t v x → x ≡ Some u → Along s n u d.at (rest_due o)
         along_next {x} {u} h m =
             record {
               onward = subst (λ k. Onward u k (rest_due o)) (sym next_at) (onward_next o ew value_is h m);

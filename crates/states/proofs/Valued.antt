@@ -1,4 +1,5 @@
 -- A second run over the values of a telegram in hand: the next value is the next entry's, wherever the run stands. Assumes nothing.
+use Rattle.std.specs.Prelude.{Some, Option}
 use mathlib.Core.Path.{◌≡◌, sym, ap, ◌∙◌}
 use mathlib.Core.List.{List, [], ◌∷◌, append-nil}
 use Prim.Native.Nat.{ℕ, suc, ◌+◌, ◌-◌, ◌<◌, ◌≤◌}
@@ -13,8 +14,6 @@ use Rattle.laws.proofs.Prefix.{values_no_prefix}
 use Rattle.states.specs.Along.{Onward}
 use Rattle.states.specs.Machine.{Advanced}
 use Rattle.states.specs.declared.Todo.{Todo}
-use Rattle.states.specs.declared.Ahead.{Ahead}
-use Rattle.states.specs.declared.Ahead.TheVariants.{On}
 use Rattle.states.proofs.Runs.{onward_first, value_due, rest_due, values_front, positive, onward_next}
 
 -- vs are the values of a telegram's entries, and those from the i-th on the values of the entries that are left
@@ -53,7 +52,7 @@ module _ {vs : List ℕ} {t : Todo} {at i : ℕ} {entries left : List Entry} (g 
   one_telegram es tel same = (values_no_prefix paper tel g.telegram [] (append-nil (values es) ∙ sym same ∙ g.same)).0
 
   -- after a field that is not the last the run goes on
-  pub valued_next : {w : ℕ} → w ≡ (field_at t.node).width → {x : Ahead} → Advanced t (get_or vs i 0) x → {u : Todo} → x ≡ On u
+  pub valued_next : {w : ℕ} → w ≡ (field_at t.node).width → {x : Option Todo} → Advanced t (get_or vs i 0) x → {u : Todo} → x ≡ Some u
       → Valued vs u (at + w) (i + 1) entries (rest_due o)
   valued_next ew a m =
       record {

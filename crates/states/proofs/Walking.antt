@@ -1,4 +1,5 @@
 -- Looking back over values finds just the packets that were sent, as over bits; and the loop that walks. Assumes nothing.
+use Rattle.std.specs.Prelude.{Some, None, Result}
 use mathlib.Core.Bool.{Bool, true, false, ◌&&◌, ◌||◌}
 use mathlib.Core.List.{List, [], ◌∷◌, ◌++◌, append_assoc, append-nil, reverse, reverse-cons}
 use mathlib.Core.Option.{Option, some, none}
@@ -29,16 +30,15 @@ use Rattle.laws.proofs.Whole.Whole.{front, then}
 use Rattle.states.specs.Lookback.{begins, with_packet, walked, packets_among, repeats}
 use Rattle.states.specs.Machine.{context_of, level_of, rule_at, todo_of, Tidy, Advanced, Stepped}
 use Rattle.states.specs.declared.Level.TheVariants.{Packet}
-use Rattle.states.specs.declared.Outcome.{Outcome}
 use Rattle.states.specs.declared.State.{State}
 use Rattle.states.specs.declared.Todo.{Todo}
-use Rattle.states.specs.declared.Ahead.{Ahead}
-use Rattle.states.specs.declared.Ahead.TheVariants.{On, Mark}
 use Rattle.states.proofs.Directions.{Passed, passes, repeats_so}
 use Rattle.states.proofs.Colliding.{found_back}
 use Rattle.states.proofs.Measuring.{Measures, field_is}
 use Rattle.states.proofs.Moves.{none_left, todo_begins, todo_begins_not}
 use Rattle.format.specs.Fields as fields
+use Rattle.std.specs.Prelude as code
+use Rattle.format.specs.declared.Kind.{Kind}
 
 -- ---- one value more
 
@@ -132,7 +132,7 @@ module _ {vs rows : List ℕ} {st : State} {i : ℕ} (m : Measures vs rows st i)
       found_back st.id v m.drives.earlier (ap (λ (x : List ℕ). walked (drop 10 x) (some end)) fs ∙ whole_among q.whole q.name) e
 
   -- so a step that is told whether they collide is the definition's
-  pub measures_passed : (v : ℕ) {twice : Bool} {r : Outcome} → twice ≡ repeats st v (packets_among vs i) → Stepped st v twice r
+  pub measures_passed : (v : ℕ) {twice : Bool} {r : Result (code.Option State) Kind} → twice ≡ repeats st v (packets_among vs i) → Stepped st v twice r
       → Passed m.drives.earlier st v r
   measures_passed v {twice} {r} t o = passes m.drives.earlier st v twice r (λ k l. walks_back v k l (repeats_so st v _ k l t)) o
 
@@ -195,17 +195,17 @@ module _ {vs : List ℕ} {n id dir : ℕ} {t : Todo} {i : ℕ} (w : Walking vs n
     pub walks_met : hit ≡ true → among clash id dir (packets_among vs n) ≡ true
     walks_met e = one_walked ∙ rw e
 
-    module _ (e : hit ≡ false) {x : Ahead} (a : Advanced t v x) where
+    module _ (e : hit ≡ false) {x : code.Option Todo} (a : Advanced t v x) where
       -- it was the end mark
-      pub walks_over : x ≡ Mark → among clash id dir (packets_among vs n) ≡ false
+      pub walks_over : x ≡ None → among clash id dir (packets_among vs n) ≡ false
       walks_over m =
           let o : next (todo_of t) v ≡ none = rw m at a.items in
           one_walked ∙ rw (e, o, walked_none (drop (i + 1) (take n vs)), among_none clash id dir)
 
       -- and on behind it
-      pub walks_on : {u : Todo} → x ≡ On u → Walking vs n id dir u (i + 1)
+      pub walks_on : {u : Todo} → x ≡ Some u → Walking vs n id dir u (i + 1)
       walks_on {u} m =
-          let b : Advanced t v (On u) = rw m at a in
+          let b : Advanced t v (Some u) = rw m at a in
           record { tidy = b.tidy; same = one_walked ∙ rw (e, b.items) }
 
 -- whether a packet begins and collides, by the row's act

@@ -1,16 +1,15 @@
 -- The writer by the tests that it makes: 1, then field by field. Assumes nothing.
+use Rattle.std.specs.Prelude.{Ok, Err}
 use mathlib.Core.Path.{◌≡◌, ap}
 use mathlib.Core.List.{List}
 use Prim.Native.Nat.{ℕ, ◌≤◌, ◌<◌}
 use lib.ListN.{length}
-use Rattle.format.specs.Refusals.{in_numbers}
+use Rattle.format.specs.Refusals.{in_numbers, Answer}
 use Rattle.format.specs.Rules.{paper}
 use Rattle.format.specs.Telegrams.{Entry, Telegram, bit_count, values, write}
 use Rattle.format.specs.Telegrams.Result.{accepted}
 use Rattle.format.specs.declared.Kind.TheVariants.{Room}
 use Rattle.format.specs.declared.Refusal.{Refusal}
-use Rattle.format.specs.declared.Answer.{Answer}
-use Rattle.format.specs.declared.Answer.TheVariants.{Accepted, Refused}
 use Rattle.laws.proofs.Demand2.{write_is}
 use Rattle.states.specs.Reader.{early}
 use Rattle.states.specs.Writer.{write_into, size_of, Write, Storing, Stored}
@@ -25,14 +24,14 @@ pub record Written (vs : List ℕ) (n : ℕ) : Type 0 where
   pub same : vs ≡ values entries
   pub size : n ≡ bit_count entries
 
-pub written : (vs : List ℕ) {a : Answer} {n : ℕ} → a ≡ size_of (write paper vs) → a ≡ Accepted n → Written vs n
+pub written : (vs : List ℕ) {a : Answer} {n : ℕ} → a ≡ size_of (write paper vs) → a ≡ Ok n → Written vs n
 written vs {a} {n} p q =
     let w = was_accepted bit_count (write paper vs) a n p q in
     let t = write_is paper vs w.entries w.is in
     record { entries = w.entries; is = w.is; telegram = t.0; same = t.1; size = w.counted }
 
 module _ (vs before : List ℕ) where
-  pub writes_roomless : length before < 104 → Write paper vs before (Refused (early Room)) before
+  pub writes_roomless : length before < 104 → Write paper vs before (Err (early Room)) before
   unfolding write_into
   writes_roomless h = let e = without_room 104 (length before) (write paper vs) h in record { answers = rw e; contents = rw e }
 
@@ -41,10 +40,10 @@ module _ (vs before : List ℕ) where
     unfolding write_into
     into = with_room 104 (length before) (write paper vs) h
 
-    pub writes_refused : {a : Answer} {x : Refusal} → a ≡ size_of (write paper vs) → a ≡ Refused x → Write paper vs before a before
+    pub writes_refused : {a : Answer} {x : Refusal} → a ≡ size_of (write paper vs) → a ≡ Err x → Write paper vs before a before
     writes_refused {a} {x} p q = record { answers = rw into (ap in_numbers p); contents = rw (into, was_refused bit_count (write paper vs) a x p q) }
 
-    module _ {a : Answer} {n : ℕ} (p : a ≡ size_of (write paper vs)) (q : a ≡ Accepted n) where
+    module _ {a : Answer} {n : ℕ} (p : a ≡ size_of (write paper vs)) (q : a ≡ Ok n) where
       -- what is written is a telegram with these values
       pub storable : Storing vs n before
       storable =

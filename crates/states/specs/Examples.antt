@@ -1,6 +1,6 @@
 -- Worked looks back, and a header at once, of a telegram with ETCS-44 and CTCS-4 inside it, ETCS-137 and ETCS-132 behind a header of 50 bits and
 -- ten values. Assumes nothing.
-use Rattle.std.specs.Prelude.{true, false, List, [], ◌∷◌, ◌≡◌, refl, ℕ}
+use Rattle.std.specs.Prelude.{true, false, List, [], ◌∷◌, ◌≡◌, refl, ℕ, Ok, Err, Some, None}
 use Rattle.bits.specs.Bits.{digits, bits_of, value_of}
 use Rattle.bits.specs.Take.{taken_at}
 use Rattle.format.specs.Packets.{◌⧺◌, times, find, etcs, ctcs}
@@ -9,9 +9,7 @@ use Rattle.format.specs.declared.Kind.TheVariants.{Wide, Full}
 use Rattle.states.specs.Heads.{front_of}
 use Rattle.states.specs.Lookback.{packets_before, hopped, packets_among, walked}
 use Rattle.states.specs.Writer.{fitting}
-use Rattle.states.specs.declared.Begun.TheVariants.{To, Not}
 use Rattle.states.specs.declared.Level.TheVariants.{Packet}
-use Rattle.states.specs.declared.Verdict.TheVariants.{Fine, Broken}
 
 abbrev bytes : List ℕ
 bytes =
@@ -63,7 +61,7 @@ second_free = (refl, refl)
 
 -- the state behind its header, at bit 50; none where 49 bits are there, or where the first three fields are other ones
 header_at_once : front_of bytes 177
-    ≡ To (record {
+    ≡ Some (record {
       at = 50;
       todo = record { node = 0; left = 0; outer = 0 };
       level = Packet;
@@ -78,10 +76,10 @@ header_at_once : front_of bytes 177
 unfolding taken_at bits_of digits value_of
 header_at_once = refl
 
-no_header : (front_of bytes 49 ≡ Not) × (front_of (16 ∷ 20 ∷ 15 ∷ 2 ∷ 168 ∷ 2 ∷ 11 ∷ []) 56 ≡ Not)
+no_header : (front_of bytes 49 ≡ None) × (front_of (16 ∷ 20 ∷ 15 ∷ 2 ∷ 168 ∷ 2 ∷ 11 ∷ []) 56 ≡ None)
 unfolding taken_at bits_of digits value_of
 no_header = (refl, refl)
 
 -- 7 and 8 in three bits, up to bit 830 and past it: too wide is told before too far
-fits : fitting 7 3 830 ∷ fitting 8 3 830 ∷ fitting 7 3 831 ∷ fitting 8 3 831 ∷ [] ≡ Fine ∷ Broken Wide ∷ Broken Full ∷ Broken Wide ∷ []
+fits : fitting 7 3 830 ∷ fitting 8 3 830 ∷ fitting 7 3 831 ∷ fitting 8 3 831 ∷ [] ≡ (Ok tt) ∷ Err Wide ∷ Err Full ∷ Err Wide ∷ []
 fits = refl

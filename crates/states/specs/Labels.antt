@@ -1,11 +1,10 @@
 -- Which field each value of a list is: what the function answers that says it, and what the lent run of numbers then holds. Definitions alone.
 use Rattle.std.specs.Prelude.{◌≡◌, List, [], ◌∷◌, ◌++◌, ℕ, ◌≤◌, length, drop}
-use Rattle.format.specs.Refusals.{in_numbers}
+use Rattle.format.specs.Refusals.{in_numbers, Answer}
 use Rattle.format.specs.Rules.{Terms, paper}
 use Rattle.format.specs.Table.{act, field_at, number_by}
 use Rattle.format.specs.Telegrams.{Entry, Result, Telegram, all, values, write}
 use Rattle.format.specs.Telegrams.Result.{accepted, refused}
-use Rattle.format.specs.declared.Answer.{Answer}
 use Rattle.states.specs.Reader.{values_needed, roomed}
 use Rattle.states.specs.Writer.{size_of}
 

@@ -1,11 +1,9 @@
 -- The packets that came before, as the code finds them: no list of them is kept, but what was read already is looked over again. Definitions
 -- alone.
-use Rattle.std.specs.Prelude.{Bool, true, false, ◌&&◌, List, [], ◌∷◌, ℕ, zero, suc, ◌+◌, ◌-◌, ◌/◌, ◌%◌, eqb, take, drop}
+use Rattle.std.specs.Prelude.{Bool, true, false, ◌&&◌, List, [], ◌∷◌, ℕ, zero, suc, ◌+◌, ◌-◌, ◌/◌, ◌%◌, eqb, take, drop, Some, None}
 use Rattle.std.proofs.Math.Option.{Option, some, none}
 use Rattle.bits.specs.Take.{taken_at}
 use Rattle.bits.specs.declared.Cursor.{Cursor}
-use Rattle.bits.specs.declared.Taken.{Taken}
-use Rattle.bits.specs.declared.Taken.TheVariants.{Field, Short}
 use Rattle.format.specs.Packets.{Items}
 use Rattle.format.specs.Packets.Items.{end, nest, send, send_if, send_either, send_times}
 use Rattle.format.specs.Rules.{Earlier, clash, collides_among, next}
@@ -13,6 +11,7 @@ use Rattle.format.specs.Table.{field_at, code_of}
 use Rattle.states.specs.declared.Level.{Level}
 use Rattle.states.specs.declared.Level.TheVariants.{Header, Packet, User}
 use Rattle.states.specs.declared.State.{State}
+use Rattle.std.specs.Prelude as code
 
 -- ---- over bits: from packet to packet
 
@@ -27,9 +26,9 @@ abbrev pub long_in : ℕ → ℕ
 long_in a = a % 8192
 
 -- what there is at a head, and nothing where there is none
-abbrev pub at_head : Taken → (ℕ → Cursor → List Earlier) → List Earlier
-at_head (Field a c) found = found a c
-at_head Short found = []
+abbrev pub at_head : code.Option (ℕ × Cursor) → (ℕ → Cursor → List Earlier) → List Earlier
+at_head (Some (a, c)) found = found a c
+at_head None found = []
 
 -- The packets from the bit at on, before the bit stop: "L_PACKET counts from the identifier", so that behind the 23 bits of a head its packet has so
 -- many fewer bits than that, and the next one follows. There are at most k.

@@ -1,5 +1,5 @@
 -- What the machine's state stands for in the definitions of crate format, and what each of its functions promises. Definitions alone.
-use Rattle.std.specs.Prelude.{◌≡◌, Bool, cond, ◌&&◌, ◌||◌, List, [], ◌∷◌, ℕ, suc, ◌+◌, ◌-◌, ◌%◌, ◌^◌, ◌<◌, ◌≤◌, eqb, leb, ltb, get_or}
+use Rattle.std.specs.Prelude.{◌≡◌, Bool, cond, ◌&&◌, ◌||◌, List, [], ◌∷◌, ℕ, suc, ◌+◌, ◌-◌, ◌%◌, ◌^◌, ◌<◌, ◌≤◌, eqb, leb, ltb, get_or, Some, None, Ok, Err, Result, ⊤}
 use Rattle.std.proofs.Math.Option.{Option, some, none}
 use Rattle.format.specs.Fields.{Rule, Sense}
 use Rattle.format.specs.Fields.Rule.{any, packet, user, direction, size, pig, total, radio, within}
@@ -15,20 +15,10 @@ use Rattle.states.specs.declared.Todo.{Todo}
 use Rattle.states.specs.declared.Level.{Level}
 use Rattle.states.specs.declared.Level.TheVariants.{Header, Packet, User}
 use Rattle.states.specs.declared.State.{State}
-use Rattle.states.specs.declared.Outcome.{Outcome}
-use Rattle.states.specs.declared.Outcome.TheVariants.{Go, Over, Breaks}
-use Rattle.states.specs.declared.Verdict.{Verdict}
-use Rattle.states.specs.declared.Verdict.TheVariants.{Fine, Broken}
-use Rattle.states.specs.declared.Ahead.{Ahead}
-use Rattle.states.specs.declared.Ahead.TheVariants.{On, Mark}
 use Rattle.states.specs.declared.Easy.{Easy}
 use Rattle.states.specs.declared.Easy.TheVariants.{To, Ends, Not}
 use Rattle.format.specs.Rules as rules
-
--- the array is the table of rows, and k is one of them
-pub record InTable (rows : List ℕ) (k : ℕ) : Type 0 where
-  pub table : rows ≡ words
-  pub inside : k < 213
+use Rattle.std.specs.Prelude as code
 
 -- ---- what is to be sent
 
@@ -72,15 +62,15 @@ pub record Turned (t : Todo) (r : Todo) : Type 0 where
   pub was : act r.node ≡ 0 → act t.node ≡ 0
   pub out : act r.node ≡ 0 → up r.node ≡ up (up t.node)
 
-abbrev pub items_of : Ahead → Option Items
-items_of (On t) = some (todo_of t)
-items_of Mark = none
+abbrev pub items_of : code.Option Todo → Option Items
+items_of (Some t) = some (todo_of t)
+items_of None = none
 
-abbrev pub TidyOn : Ahead → Type 0
-TidyOn (On t) = Tidy t
-TidyOn Mark = Unit
+abbrev pub TidyOn : code.Option Todo → Type 0
+TidyOn (Some t) = Tidy t
+TidyOn None = Unit
 
-pub record Advanced (t : Todo) (v : ℕ) (r : Ahead) : Type 0 where
+pub record Advanced (t : Todo) (v : ℕ) (r : code.Option Todo) : Type 0 where
   pub tidy : TidyOn r
   pub items : next (todo_of t) v ≡ items_of r
 
@@ -123,8 +113,8 @@ slight r v = ltb r 10 || leb v (r % 16) && (ltb r 48 || leb r 51 && ltb 0 v)
 
 -- where such a value leads, if to a field or to the packet's end
 abbrev pub Eased : Todo → ℕ → Easy → Type 0
-Eased t v (To u) = Slight t.node v × Advanced t v (On u) × (act u.node ≡ 0 → ⊥)
-Eased t v (Ends u) = Slight t.node v × Advanced t v (On u) × (act u.node ≡ 0)
+Eased t v (To u) = Slight t.node v × Advanced t v (Some u) × (act u.node ≡ 0 → ⊥)
+Eased t v (Ends u) = Slight t.node v × Advanced t v (Some u) × (act u.node ≡ 0)
 Eased t v Not = Unit
 
 -- the state at a position, with t to be sent
@@ -174,14 +164,14 @@ context_of l s =
 abbrev pub view : List Earlier → State → rules.State
 view l s = record { at = s.at; todo = todo_of s.todo; context = context_of l s }
 
-abbrev pub next_of : List Earlier → Outcome → Next
-next_of l (Go s) = go (todo_of s.todo) (context_of l s)
-next_of l Over = over
-next_of l (Breaks k) = breaks k
+abbrev pub next_of : List Earlier → Result (code.Option State) Kind → Next
+next_of l (Ok (Some s)) = go (todo_of s.todo) (context_of l s)
+next_of l (Ok None) = over
+next_of l (Err k) = breaks k
 
-abbrev pub verdict_of : Verdict → Option Kind
-verdict_of Fine = none
-verdict_of (Broken k) = some k
+abbrev pub verdict_of : Result ⊤ Kind → Option Kind
+verdict_of (Ok tt) = none
+verdict_of (Err k) = some k
 
 -- ---- what a value breaks
 
@@ -199,19 +189,15 @@ unfoldable pub sense_of : ℕ → ℕ → ℕ → Sense
 sense_of c a b = get_or (senses a b) c scale
 
 -- of a Q_DIR, where twice says whether its packet collides with an earlier one
-abbrev pub Directed : State → ℕ → Bool → Verdict → Type 0
+abbrev pub Directed : State → ℕ → Bool → Result ⊤ Kind → Type 0
 Directed s v twice r =
     (p : Terms) (l : List Earlier) → (s.level ≡ Packet → p.collides (context_of l s) v ≡ twice)
     → verdict_of r ≡ broken p (context_of l s) direction v
 
-pub record Judging (rows : List ℕ) (s : State) : Type 0 where
-  pub table : rows ≡ words
-  pub inside : s.todo.node < 213
-
 abbrev pub rule_at : ℕ → Rule
 rule_at k = rule_of (field_at k).sense
 
-abbrev pub Judged : State → ℕ → Bool → Verdict → Type 0
+abbrev pub Judged : State → ℕ → Bool → Result ⊤ Kind → Type 0
 Judged s v twice r =
     (p : Terms) (l : List Earlier) → (rule_at s.todo.node ≡ direction → s.level ≡ Packet → p.collides (context_of l s) v ≡ twice)
     → verdict_of r ≡ broken p (context_of l s) (rule_at s.todo.node) v
@@ -235,21 +221,16 @@ pub record Sound (s : State) : Type 0 where
   pub first : s.start ≤ s.at
   pub second : s.userstart ≤ s.at
 
-abbrev pub Kept : ℕ → Outcome → Type 0
-Kept n (Go s) = Sound s × (s.at ≡ n)
-Kept n Over = Unit
-Kept n (Breaks k) = Unit
+abbrev pub Kept : ℕ → Result (code.Option State) Kind → Type 0
+Kept n (Ok (Some s)) = Sound s × (s.at ≡ n)
+Kept n (Ok None) = Unit
+Kept n (Err k) = Unit
 
-pub record Settling (rows : List ℕ) (s : State) : Type 0 where
-  pub table : rows ≡ words
-  pub sound : Sound s
-
-pub record Settled (s : State) (r : Outcome) : Type 0 where
+pub record Settled (s : State) (r : Result (code.Option State) Kind) : Type 0 where
   pub right : (l : List Earlier) → settled s.at (todo_of s.todo) (context_of l s) ≡ next_of l r
   pub kept : Kept s.at r
 
-pub record Stepping (rows : List ℕ) (s : State) (v : ℕ) : Type 0 where
-  pub table : rows ≡ words
+pub record Stepping (s : State) (v : ℕ) : Type 0 where
   pub sound : Sound s
   pub low : s.at ≤ 65536
   pub fits : v < 2 ^ (field_at s.todo.node).width
@@ -259,14 +240,14 @@ abbrev pub earlier_after : List Earlier → State → ℕ → List Earlier
 earlier_after l s v = (noted (rule_at s.todo.node) (context_of l s) s.at v).earlier
 
 -- of a value that breaks no rule
-pub record Entered (s : State) (v : ℕ) (r : Outcome) : Type 0 where
+pub record Entered (s : State) (v : ℕ) (r : Result (code.Option State) Kind) : Type 0 where
   pub right : (l : List Earlier)
       → rules.onward (s.at + (field_at s.todo.node).width) (next (todo_of s.todo) v) (noted (rule_at s.todo.node) (context_of l s) s.at v)
       ≡ next_of (earlier_after l s v) r
   pub kept : Kept (s.at + (field_at s.todo.node).width) r
 
 -- the machine's step is the definition's, whatever the place of refusals and whatever collides, if twice says that of this value
-pub record Stepped (s : State) (v : ℕ) (twice : Bool) (r : Outcome) : Type 0 where
+pub record Stepped (s : State) (v : ℕ) (twice : Bool) (r : Result (code.Option State) Kind) : Type 0 where
   pub right : (p : Terms) (l : List Earlier) → (rule_at s.todo.node ≡ direction → s.level ≡ Packet → p.collides (context_of l s) v ≡ twice)
       → step p (view l s) v ≡ next_of (earlier_after l s v) r
   pub kept : Kept (s.at + (field_at s.todo.node).width) r

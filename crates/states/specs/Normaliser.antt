@@ -2,11 +2,10 @@
 use Rattle.std.specs.Prelude.{◌≡◌, true, List, ◌++◌, ℕ, ◌*◌, ◌≤◌, length, take}
 use Rattle.bits.specs.Bits.{bits_of, bytes_for}
 use Rattle.format.specs.Normal.{normal}
-use Rattle.format.specs.Refusals.{in_numbers}
+use Rattle.format.specs.Refusals.{in_numbers, Answer}
 use Rattle.format.specs.Rules.{Terms, paper}
 use Rattle.format.specs.Telegrams.{Entry, Result, Telegram, bits}
 use Rattle.format.specs.Telegrams.Result.{accepted, refused}
-use Rattle.format.specs.declared.Answer.{Answer}
 use Rattle.states.specs.Reader.{bytes_needed, clear, checked, roomed}
 use Rattle.states.specs.Writer.{size_of, bytes_over}
 

@@ -1,15 +1,13 @@
 -- docs/RULES.md, "Telegrams": what the reader and the check answer, and what the lent run of values then holds. Definitions alone.
-use Rattle.std.specs.Prelude.{◌≡◌, Bool, cond, ◌&&◌, List, ◌++◌, ℕ, eqb, leb, length, take, drop}
+use Rattle.std.specs.Prelude.{◌≡◌, Bool, cond, ◌&&◌, List, ◌++◌, ℕ, eqb, leb, length, take, drop, Ok, Err}
 use Rattle.bits.specs.Bits.{value_of, bits_of, bytes_for}
-use Rattle.format.specs.Refusals.{in_numbers}
+use Rattle.format.specs.Refusals.{in_numbers, Answer}
 use Rattle.format.specs.Rules.{Terms}
 use Rattle.format.specs.Telegrams.{Entry, Result, read, values}
 use Rattle.format.specs.Telegrams.Result.{accepted, refused}
 use Rattle.format.specs.declared.Kind.{Kind}
 use Rattle.format.specs.declared.Kind.TheVariants.{Room, Size, Padding}
 use Rattle.format.specs.declared.Refusal.{Refusal}
-use Rattle.format.specs.declared.Answer.{Answer}
-use Rattle.format.specs.declared.Answer.TheVariants.{Accepted, Refused}
 
 -- "A telegram is a string of n bits, 58 ≤ n ≤ 830, in bytes"; "2: n outside 58..830, or input is not ceil(n/8) bytes"
 abbrev pub sized : List ℕ → ℕ → Bool
@@ -47,8 +45,8 @@ read_into p s n room = roomed values_needed room (checked p s n)
 
 -- an answer: a count of an accepted telegram, or the refusal as it stands
 abbrev pub answered : (List Entry → ℕ) → Result → Answer
-answered count (accepted es) = Accepted (count es)
-answered count (refused r) = Refused r
+answered count (accepted es) = Ok (count es)
+answered count (refused r) = Err r
 
 -- "Gives the count"
 abbrev pub answer_of : Result → Answer

@@ -1,15 +1,14 @@
 -- docs/RULES.md, "Telegrams": what the writer answers, and what the lent bytes then hold. Definitions alone.
-use Rattle.std.specs.Prelude.{◌≡◌, cond, List, ◌++◌, ℕ, ◌^◌, ◌≤◌, leb, ltb, length, drop}
+use Rattle.std.specs.Prelude.{◌≡◌, cond, List, ◌++◌, ℕ, ◌^◌, ◌≤◌, leb, ltb, length, drop, Ok, Err, ⊤}
 use Rattle.bits.specs.Bits.{bytes_of}
-use Rattle.format.specs.Refusals.{in_numbers}
+use Rattle.format.specs.Refusals.{in_numbers, Answer}
 use Rattle.format.specs.Rules.{Terms, paper}
 use Rattle.format.specs.Telegrams.{Entry, Result, Telegram, bits, bit_count, values, write}
 use Rattle.format.specs.Telegrams.Result.{accepted, refused}
 use Rattle.format.specs.declared.Kind.TheVariants.{Wide, Full}
-use Rattle.format.specs.declared.Answer.{Answer}
 use Rattle.states.specs.Reader.{bytes_needed, roomed, answered}
-use Rattle.states.specs.declared.Verdict.{Verdict}
-use Rattle.states.specs.declared.Verdict.TheVariants.{Fine, Broken}
+use Rattle.format.specs.declared.Kind.{Kind}
+use Rattle.std.specs.Prelude as code
 
 -- the writer, lent so many bytes
 unfoldable pub write_into : Terms → List ℕ → ℕ → Result
@@ -31,8 +30,8 @@ pub record Write (p : Terms) (vs : List ℕ) (before : List ℕ) (answer : Answe
 
 -- a value for a field of w bits that ends at the bit end. "12: .. a value does not fit its field's width"; "13: .. the field would end past bit 830"; "At one
 -- field: 5, 12, 13"
-abbrev pub fitting : ℕ → ℕ → ℕ → Verdict
-fitting v w end = cond (ltb v (2 ^ w)) (cond (leb end 830) Fine (Broken Full)) (Broken Wide)
+abbrev pub fitting : ℕ → ℕ → ℕ → code.Result ⊤ Kind
+fitting v w end = cond (ltb v (2 ^ w)) (cond (leb end 830) (Ok tt) (Err Full)) (Err Wide)
 
 -- ---- the second run, over values that are an accepted telegram of n bits
 

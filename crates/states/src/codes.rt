@@ -1,4 +1,5 @@
-// The numbers of the table: what stands in a row, and the codes of fields.
+// The numbers of the table: what stands in a row, and the codes of fields. Numbers and no enum: the packed table holds them, the definitions `act` and
+// `code_by` (format, specs/Table.antt) are numbers, and an enum would have to be made of each row that is looked at.
 
 // What stands in a row: the end of a group or a packet, the packet inside one, a field, and a field that says how often a group is sent. How far any other
 // field leads that steers says `table::leap`.

@@ -2,6 +2,8 @@
 // that (proofs/). The functions over it stand in the crates above: `lookback`, `noting`, `front`, `short`, `telegram`.
 #![tactic(auto)]
 
+ghost use Rattle.std.specs.Prelude.{◌≡◌};
+
 pub mod codes;
 
 use bits::Cursor;
@@ -16,11 +18,17 @@ pub struct Todo {
     pub outer: u64,
 }
 
-// What is to be sent after a value, or that it is the end mark.
-#[derive(Clone, Copy)]
-pub enum Ahead {
-    On(Todo),
-    Mark,
+impl Todo {
+    // The items of a row in no group: nothing is sent again.
+    pub fn at(node: usize) -> Todo
+        ensures { result ≡ record { node = node; left = 0; outer = 0 } }
+    {
+        Todo {
+            node,
+            left: 0,
+            outer: 0,
+        }
+    }
 }
 
 // Whether the field that is due belongs to the header, to a packet or, behind its NID_XUSER, to the CTCS packet inside one.
@@ -46,19 +54,26 @@ pub struct State {
     pub pig: u64,
 }
 
-// What a value leads to.
-#[derive(Clone, Copy)]
-pub enum Outcome {
-    Go(State),
-    Over,
-    Breaks(Kind),
-}
+impl State {
+    ghost use Rattle.states.specs.Machine.{fresh_at};
 
-// Whether a value keeps the rule of its field.
-#[derive(Clone, Copy)]
-pub enum Verdict {
-    Fine,
-    Broken(Kind),
+    // Before the next packet, or the end mark: row 0 stands for no packet.
+    pub fn fresh(at: usize, pig: u64) -> State
+        ensures { result ≡ fresh_at at pig }
+    {
+        State {
+            at,
+            todo: Todo::at(0),
+            level: Level::Packet,
+            start: at,
+            id: 0,
+            dir: 0,
+            long: 0,
+            userstart: 0,
+            userlong: 0,
+            pig,
+        }
+    }
 }
 
 // Where a telegram stands behind fields that were gone past: what is to be sent there, the cursor, and how many fields they were.
@@ -74,12 +89,5 @@ pub struct Reach {
 pub enum Easy {
     To(Todo),
     Ends(Todo),
-    Not,
-}
-
-// Where what is taken leads, if it keeps every rule; and else, that its fields have to be looked at one by one.
-#[derive(Clone, Copy)]
-pub enum Begun {
-    To(State),
     Not,
 }

@@ -1,2 +1,3 @@
 -- That the promises determine what the functions answer and leave.
 pub mod Once
+mod Outcomes

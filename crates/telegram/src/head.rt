@@ -1,116 +1,87 @@
 // What stands in front of a packet, taken as one field: its NID_PACKET, Q_DIR and L_PACKET; and a CTCS packet's NID_XUSER, Q_DIR and L_PACKET.
-ghost use Rattle.std.specs.Prelude.{◌≡◌};
-ghost use Rattle.format.specs.Table.{words};
 ghost use Rattle.states.specs.Heads.{Headed, Inward, Led};
 
-use crate::rows::act;
-use bits::{Cursor, Taken};
+use crate::rows::Rows;
+use bits::Cursor;
 use lookback::collides_in_bits;
 use packets::National;
 use packets::heads::{INNER_HEAD, OUTER_HEAD};
 use states::codes::END;
-use states::{Begun, Level, State, Todo};
+use states::{Level, State, Todo};
 
 // The head that is due, if one is: of a packet, or of the CTCS packet inside one.
-pub(crate) fn leading(rows: &[u16; 213], s: &[u8], n: usize, st: State) -> Begun
-    requires { rows.now ≡ words }
+pub(crate) fn leading(rows: &Rows, s: &[u8], n: usize, st: State) -> Option<State>
     ensures { Led s.now n st result }
 {
-    let t = st.todo;
-    if t.node == 0 {
+    if st.todo.node == 0 {
         return head(rows, s, n, st);
     }
-    if t.node == National::INNER_ROW {
+    if st.todo.node == National::INNER_ROW {
         return inner(rows, s, n, st);
     }
-    Begun::Not
+    None
 }
 
 // The head of the packet that begins here, if it keeps every rule, its packet collides with none before it, and a field follows it. Row 0 stands for
 // no packet.
-fn head(rows: &[u16; 213], s: &[u8], n: usize, st: State) -> Begun
-    requires { rows.now ≡ words }
+fn head(rows: &Rows, s: &[u8], n: usize, st: State) -> Option<State>
     ensures { Headed s.now n st result }
 {
     let c = Cursor { at: st.at };
-    let Taken::Field(a, next) = c.take(s, n, OUTER_HEAD) else {
-        return Begun::Not;
-    };
+    let (a, next) = c.take(s, n, OUTER_HEAD)?;
     let id = a / 32768;
     let dir = a / 8192 % 4;
-    let p = packets::etcs(id);
-    let row = p.row;
+    let row = packets::etcs(id).row;
     if row == 0 {
-        return Begun::Not;
+        return None;
     }
-    if act(rows, row + 2) == END {
-        return Begun::Not;
+    if rows.act(row + 2) == END {
+        return None;
     }
     if dir == 3 {
-        return Begun::Not;
+        return None;
     }
     if collides_in_bits(s, st.start, id, dir) {
-        return Begun::Not;
+        return None;
     }
-    let todo = Todo {
-        node: row + 2,
-        left: 0,
-        outer: 0,
-    };
-    Begun::To(State {
+    Some(State {
         at: next.at,
-        todo,
-        level: Level::Packet,
-        start: st.start,
+        todo: Todo::at(row + 2),
         id,
         dir,
         long: a % 8192,
-        userstart: 0,
-        userlong: 0,
-        pig: st.pig,
+        ..State::fresh(st.start, st.pig)
     })
 }
 
 // The head of the CTCS packet that begins here, if it keeps every rule, its Q_DIR is that of the packet around it, and a field follows it.
-fn inner(rows: &[u16; 213], s: &[u8], n: usize, st: State) -> Begun
-    requires { rows.now ≡ words }
+// Apart from `head`: of another table, with another rule of its Q_DIR and another state behind it; a function for both would take these as closures.
+fn inner(rows: &Rows, s: &[u8], n: usize, st: State) -> Option<State>
     ensures { Inward s.now n st result }
 {
     let c = Cursor { at: st.at };
-    let Taken::Field(a, next) = c.take(s, n, INNER_HEAD) else {
-        return Begun::Not;
-    };
+    let (a, next) = c.take(s, n, INNER_HEAD)?;
     let id = a / 32768;
     let dir = a / 8192 % 4;
-    let p = packets::ctcs(id);
-    let row = p.row;
+    let row = packets::ctcs(id).row;
     if row == 0 {
-        return Begun::Not;
+        return None;
     }
-    if act(rows, row + 2) == END {
-        return Begun::Not;
+    if rows.act(row + 2) == END {
+        return None;
     }
     if 2 < dir {
-        return Begun::Not;
+        return None;
     }
     if dir != st.dir {
-        return Begun::Not;
+        return None;
     }
-    let todo = Todo {
-        node: row + 2,
-        left: 0,
-        outer: 0,
-    };
-    Begun::To(State {
+    Some(State {
         at: next.at,
-        todo,
+        todo: Todo::at(row + 2),
         level: Level::User,
-        start: st.start,
-        id: st.id,
-        dir: st.dir,
-        long: st.long,
         userstart: st.at,
         userlong: a % 8192,
-        pig: st.pig,
+        ..st
     })
 }

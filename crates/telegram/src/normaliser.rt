@@ -5,30 +5,25 @@
 ghost use Rattle.format.specs.Rules.{paper};
 ghost use Rattle.states.specs.Normaliser.{Normalise, Telling, Normalised};
 
-use crate::answer::refuse;
 use crate::reader::find;
 use copying::copy;
-use format::{Answer, Kind};
+use format::{Kind, Refusal};
 use retelling::patch;
 
 // Writes the normal form of a telegram into out, and answers its n. A refusal leaves out as it was.
-pub fn normalise(s: &[u8], n: usize, out: &mut [u8]) -> Answer
+pub fn normalise(s: &[u8], n: usize, out: &mut [u8]) -> Result<usize, Refusal>
     ensures { Normalise paper s.now n out.old result out.new }
 {
     if out.len() < 104 {
-        return refuse(Kind::Room, 0);
+        return Err(Refusal::at_once(Kind::Room));
     }
-    let f = find(s, n);
-    let a = f.answer;
-    let Answer::Accepted(_) = a else {
-        return a;
-    };
-    if f.metric {
+    let found = find(s, n)?;
+    if found.metric {
         copy(s, out);
-        return Answer::Accepted(n);
+    } else {
+        tell(s, n, out);
     }
-    tell(s, n, out);
-    Answer::Accepted(n)
+    Ok(n)
 }
 
 // Stores the normal form: most of its fields are sent as they are, so the telegram is copied and what changes is put over it.

@@ -1,67 +1,84 @@
 // The table of rows, read.
 //
-// A driver takes the table into a local once and lends it; each function asks that what it is lent is the table and that the row is one
-// of its rows.
-ghost use Rattle.std.specs.Prelude.{◌≡◌, ◌<◌};
-ghost use Rattle.format.specs.Table.{act, rest, field_at, jump, code_of, low_of, high_of};
-ghost use Rattle.states.specs.Machine.{InTable};
+// A driver takes the table once and lends it. It holds two bytes a row, and no more: whoever checks a telegram has it on the stack.
+ghost use Rattle.std.specs.Prelude.{◌≡◌};
+ghost use Rattle.format.specs.Table.{words};
 
-pub(crate) fn act(rows: &[u16; 213], k: usize) -> u32
-    requires { InTable rows.now k }
-    ensures { result ≡ act k }
-{
-    (rows[k] % 8) as u32
+// The definition's table, row by row: whoever has one need not ask that it is the table.
+#[derive(Drop)]
+pub(crate) struct Rows {
+    rows: [u16; 213],
+    ghost table: { rows ≡ words },
 }
 
-// The bits of the field that is due in row k.
-pub(crate) fn width(rows: &[u16; 213], k: usize) -> usize
-    requires { InTable rows.now k }
-    ensures { result ≡ (field_at k).width }
-{
-    (rows[k] / 8 % 128) as usize
-}
+impl Rows {
+    ghost use Rattle.std.specs.Prelude.{◌<◌};
+    ghost use Rattle.format.specs.Table.{act, rest, field_at, jump, code_of, low_of, high_of};
 
-// The number of the field's rule, or how far the row jumps.
-pub(crate) fn rest(rows: &[u16; 213], k: usize) -> u32
-    requires { InTable rows.now k }
-    ensures { result ≡ rest k }
-{
-    (rows[k] / 1024) as u32
-}
+    pub(crate) fn new() -> Rows {
+        Rows {
+            rows: table::rows(),
+        }
+    }
 
-pub(crate) fn code(rows: &[u16; 213], k: usize) -> u32
-    requires { InTable rows.now k }
-    ensures { result ≡ code_of (field_at k).sense }
-{
-    table::code(act(rows, k), rest(rows, k))
-}
+    // What stands in row k.
+    pub(crate) fn act(&self, k: usize) -> u32
+        requires { k < 213 }
+        ensures { result ≡ act k }
+    {
+        (self.rows[k] % 8) as u32
+    }
 
-pub(crate) fn low(rows: &[u16; 213], k: usize) -> u64
-    requires { InTable rows.now k }
-    ensures { result ≡ low_of (field_at k) }
-{
-    table::low(rest(rows, k))
-}
+    // The bits of the field that is due in row k.
+    pub(crate) fn width(&self, k: usize) -> usize
+        requires { k < 213 }
+        ensures { result ≡ (field_at k).width }
+    {
+        (self.rows[k] / 8 % 128) as usize
+    }
 
-pub(crate) fn high(rows: &[u16; 213], k: usize) -> u64
-    requires { InTable rows.now k }
-    ensures { result ≡ high_of (field_at k) }
-{
-    table::high(rest(rows, k))
-}
+    // The number of the field's rule, or how far the row jumps.
+    pub(crate) fn rest(&self, k: usize) -> u32
+        requires { k < 213 }
+        ensures { result ≡ rest k }
+    {
+        (self.rows[k] / 1024) as u32
+    }
 
-// Where a field leads that steers, unless it is followed by the next row.
-pub(crate) fn jump(rows: &[u16; 213], k: usize) -> usize
-    requires { InTable rows.now k × (2 < act k) }
-    ensures { result ≡ jump k }
-{
-    k + table::leap(act(rows, k), rest(rows, k))
-}
+    pub(crate) fn code(&self, k: usize) -> u32
+        requires { k < 213 }
+        ensures { result ≡ code_of (field_at k).sense }
+    {
+        table::code(self.act(k), self.rest(k))
+    }
 
-// The row that repeats the group whose end row k is, or 0 at a packet's end.
-pub(crate) fn back(rows: &[u16; 213], k: usize) -> usize
-    requires { InTable rows.now k × (act k ≡ 0) }
-    ensures { result ≡ jump k }
-{
-    table::back(k, rest(rows, k))
+    pub(crate) fn low(&self, k: usize) -> u64
+        requires { k < 213 }
+        ensures { result ≡ low_of (field_at k) }
+    {
+        table::low(self.rest(k))
+    }
+
+    pub(crate) fn high(&self, k: usize) -> u64
+        requires { k < 213 }
+        ensures { result ≡ high_of (field_at k) }
+    {
+        table::high(self.rest(k))
+    }
+
+    // Where a field leads that steers, unless it is followed by the next row.
+    pub(crate) fn jump(&self, k: usize) -> usize
+        requires { (k < 213) × (2 < act k) }
+        ensures { result ≡ jump k }
+    {
+        k + table::leap(self.act(k), self.rest(k))
+    }
+
+    // The row that repeats the group whose end row k is, or 0 at a packet's end.
+    pub(crate) fn back(&self, k: usize) -> usize
+        requires { (k < 213) × (act k ≡ 0) }
+        ensures { result ≡ jump k }
+    {
+        table::back(k, self.rest(k))
+    }
 }

@@ -7,21 +7,9 @@ use states::{Level, State, Todo};
 pub(crate) fn begin() -> State
     ensures { Beginning result }
 {
-    let first = Todo {
-        node: 1,
-        left: 0,
-        outer: 0,
-    };
     State {
-        at: 0,
-        todo: first,
+        todo: Todo::at(1),
         level: Level::Header,
-        start: 0,
-        id: 0,
-        dir: 0,
-        long: 0,
-        userstart: 0,
-        userlong: 0,
-        pig: 0,
+        ..State::fresh(0, 0)
     }
 }

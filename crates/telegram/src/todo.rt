@@ -1,68 +1,61 @@
 // What is still to be sent of a packet, and what is after a value.
 ghost use Rattle.std.specs.Prelude.{◌<◌};
 ghost use Rattle.format.specs.Table.{act};
-ghost use Rattle.states.specs.Machine.{InTable, Tidy, Followed, Moved, Turned, Advanced};
+ghost use Rattle.states.specs.Machine.{Tidy, Followed, Moved, Turned, Advanced};
 
-use crate::rows::{act, back, jump};
+use crate::rows::Rows;
+use states::Todo;
 use states::codes::{END, NEST, SEND, TIMES};
-use states::{Ahead, Todo};
 
 // The row after a field that steers and repeats nothing.
-fn follow(rows: &[u16; 213], k: usize, v: u64) -> usize
-    requires { InTable rows.now k × (2 < act k) × (act k < 5) }
+fn follow(rows: &Rows, k: usize, v: u64) -> usize
+    requires { (k < 213) × (2 < act k) × (act k < 5) }
     ensures { Followed k v result }
 {
     if v == 1 {
         return k + 1;
     }
-    jump(rows, k)
+    rows.jump(k)
 }
 
 // The field is passed: the next row, or the first row of the group that it repeats.
-pub(crate) fn moved(rows: &[u16; 213], t: Todo, v: u64) -> Todo
-    requires { InTable rows.now t.node × (1 < act t.node) }
+pub(crate) fn moved(rows: &Rows, t: Todo, v: u64) -> Todo
+    requires { (t.node < 213) × (1 < act t.node) }
     ensures { Moved t v result }
 {
     let k = t.node;
-    let a = act(rows, k);
-    if a == SEND {
-        return Todo {
-            node: k + 1,
-            left: t.left,
-            outer: t.outer,
-        };
-    }
-    if a != TIMES {
-        return Todo {
+    match rows.act(k) {
+        SEND => Todo { node: k + 1, ..t },
+        TIMES => {
+            if v == 0 {
+                return Todo {
+                    node: rows.jump(k),
+                    ..t
+                };
+            }
+            Todo {
+                node: k + 1,
+                left: v - 1,
+                outer: t.left,
+            }
+        }
+        _ => Todo {
             node: follow(rows, k, v),
-            left: t.left,
-            outer: t.outer,
-        };
-    }
-    if v == 0 {
-        return Todo {
-            node: jump(rows, k),
-            left: t.left,
-            outer: t.outer,
-        };
-    }
-    Todo {
-        node: k + 1,
-        left: v - 1,
-        outer: t.left,
+            ..t
+        },
     }
 }
 
 // At a group's end: the group again, or the next row, which follows its last.
-pub(crate) fn turned(rows: &[u16; 213], t: Todo) -> Todo
-    requires { InTable rows.now t.node }
+pub(crate) fn turned(rows: &Rows, t: Todo) -> Todo
+    requires { t.node < 213 }
     ensures { Turned t result }
 {
     let k = t.node;
-    if act(rows, k) != END {
+    if rows.act(k) != END {
         return t;
     }
-    let u = back(rows, k);
+    let u = rows.back(k);
     if u == 0 {
         return t;
     }
@@ -76,56 +69,39 @@ pub(crate) fn turned(rows: &[u16; 213], t: Todo) -> Todo
     Todo {
         node: u + 1,
         left: t.left - 1,
-        outer: t.outer,
+        ..t
     }
 }
 
 // What is to be sent after the field that is due holds v. No group holds two others, so that two turns are enough.
-fn further(rows: &[u16; 213], t: Todo, v: u64) -> Ahead
-    requires { InTable rows.now t.node × Tidy t }
+fn further(rows: &Rows, t: Todo, v: u64) -> Option<Todo>
+    requires { Tidy t }
     ensures { Advanced t v result }
 {
-    let k = t.node;
-    let a = act(rows, k);
-    if a == END {
-        let s = packets::etcs(v);
-        let row = s.row;
-        if row == 0 {
-            return Ahead::Mark;
+    match rows.act(t.node) {
+        END => {
+            let row = packets::etcs(v).row;
+            if row == 0 {
+                return None;
+            }
+            Some(Todo::at(row))
         }
-        return Ahead::On(Todo {
-            node: row,
-            left: 0,
-            outer: 0,
-        });
+        NEST => Some(Todo::at(packets::ctcs(v).row)),
+        _ => Some(turned(rows, turned(rows, moved(rows, t, v)))),
     }
-    if a == NEST {
-        let s = packets::ctcs(v);
-        let row = s.row;
-        return Ahead::On(Todo {
-            node: row,
-            left: 0,
-            outer: 0,
-        });
-    }
-    Ahead::On(turned(rows, turned(rows, moved(rows, t, v))))
 }
 
 // The same, with no more ado where the field steers nothing and another follows it, as most do.
-pub(crate) fn advance(rows: &[u16; 213], t: Todo, v: u64) -> Ahead
-    requires { InTable rows.now t.node × Tidy t }
+pub(crate) fn advance(rows: &Rows, t: Todo, v: u64) -> Option<Todo>
+    requires { Tidy t }
     ensures { Advanced t v result }
 {
     let k = t.node;
-    if act(rows, k) != SEND {
+    if rows.act(k) != SEND {
         return further(rows, t, v);
     }
-    if act(rows, k + 1) == END {
+    if rows.act(k + 1) == END {
         return further(rows, t, v);
     }
-    Ahead::On(Todo {
-        node: k + 1,
-        left: t.left,
-        outer: t.outer,
-    })
+    Some(Todo { node: k + 1, ..t })
 }

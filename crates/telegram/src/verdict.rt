@@ -1,125 +1,112 @@
 // Which rule a value breaks at the field that is due.
-ghost use Rattle.std.specs.Prelude.{◌≡◌, false, ◌&&◌, ◌||◌, eqb, leb};
+ghost use Rattle.std.specs.Prelude.{◌≡◌, ◌<◌, false, ◌&&◌, ◌||◌, eqb, leb};
 ghost use Rattle.format.specs.Packets.{find, etcs, ctcs};
 ghost use Rattle.format.specs.Rules.{unless, known, radio_from};
 ghost use Rattle.format.specs.Table.{field_at, low_of, high_of};
 ghost use Rattle.format.specs.declared.Kind.TheVariants.{Unknown};
-ghost use Rattle.states.specs.Machine.{InTable, verdict_of, Ranged, Directed, Judging, Judged};
+ghost use Rattle.states.specs.Machine.{verdict_of, Ranged, Directed, Judged};
 
-use crate::rows::{code, high, low};
+use crate::rows::Rows;
 use format::Kind;
 use states::codes::{DIRECTION, PACKET, RADIO, TOTAL, USER};
-use states::{Level, State, Verdict};
+use states::{Level, State};
 
 // The kind of a value that is not allowed: a header rule's, or a field's.
-fn forbidden(l: Level) -> Verdict
+fn forbidden(l: Level) -> Result<(), Kind>
     ensures { verdict_of result ≡ Ranged false l }
 {
     match l {
-        Level::Header => Verdict::Broken(Kind::Header),
-        Level::Packet => Verdict::Broken(Kind::Value),
-        Level::User => Verdict::Broken(Kind::Value),
+        Level::Header => Err(Kind::Header),
+        Level::Packet | Level::User => Err(Kind::Value),
     }
 }
 
 // Whether a value lies in the range of its field.
-fn ranged(rows: &[u16; 213], k: usize, l: Level, v: u64) -> Verdict
-    requires { InTable rows.now k }
+fn ranged(rows: &Rows, k: usize, l: Level, v: u64) -> Result<(), Kind>
+    requires { k < 213 }
     ensures { verdict_of result ≡ Ranged (leb (low_of (field_at k)) v && leb v (high_of (field_at k))) l }
 {
-    if v < low(rows, k) {
+    if v < rows.low(k) {
         return forbidden(l);
     }
-    if high(rows, k) < v {
+    if rows.high(k) < v {
         return forbidden(l);
     }
-    Verdict::Fine
+    Ok(())
 }
 
 // An NID_PACKET of the tables, or the end mark.
-fn packet(v: u64) -> Verdict
+fn packet(v: u64) -> Result<(), Kind>
     ensures { verdict_of result ≡ unless (eqb v 255 || known (find v etcs)) Unknown }
 {
     if v == 255 {
-        return Verdict::Fine;
+        return Ok(());
     }
-    let s = packets::etcs(v);
-    let row = s.row;
-    if row == 0 {
-        return Verdict::Broken(Kind::Unknown);
+    if packets::etcs(v).row == 0 {
+        return Err(Kind::Unknown);
     }
-    Verdict::Fine
+    Ok(())
 }
 
-// An NID_XUSER of the tables.
-fn user(v: u64) -> Verdict
+// An NID_XUSER of the tables. Apart from `packet`: of another table, and with no end mark; what both share is one test.
+fn user(v: u64) -> Result<(), Kind>
     ensures { verdict_of result ≡ unless (known (find v ctcs)) Unknown }
 {
-    let s = packets::ctcs(v);
-    let row = s.row;
-    if row == 0 {
-        return Verdict::Broken(Kind::Unknown);
+    if packets::ctcs(v).row == 0 {
+        return Err(Kind::Unknown);
     }
-    Verdict::Fine
+    Ok(())
 }
 
 // A Q_DIR: 0 to 2; of a packet that collides with no earlier one; of a CTCS packet, that of its ETCS-44.
-fn direction(s: State, v: u64, twice: bool) -> Verdict
+fn direction(s: State, v: u64, twice: bool) -> Result<(), Kind>
     ensures { Directed s v twice result }
 {
     if 2 < v {
-        return Verdict::Broken(Kind::Value);
+        return Err(Kind::Value);
     }
-    let l = s.level;
-    match l {
-        Level::Header => Verdict::Fine,
+    match s.level {
+        Level::Header => Ok(()),
         Level::Packet => {
             if twice {
-                return Verdict::Broken(Kind::Repeated);
+                return Err(Kind::Repeated);
             }
-            Verdict::Fine
+            Ok(())
         }
         Level::User => {
             if v == s.dir {
-                return Verdict::Fine;
+                return Ok(());
             }
-            Verdict::Broken(Kind::Direction)
+            Err(Kind::Direction)
         }
     }
 }
 
 // The rule that a value breaks at the field that is due. twice: whether its packet collides with an earlier one, where it is a Q_DIR.
-pub(crate) fn judge(rows: &[u16; 213], s: State, v: u64, twice: bool) -> Verdict
-    requires { Judging rows.now s }
+pub(crate) fn judge(rows: &Rows, s: State, v: u64, twice: bool) -> Result<(), Kind>
+    requires { s.todo.node < 213 }
     ensures { Judged s v twice result }
 {
-    let t = s.todo;
-    let k = t.node;
-    let c = code(rows, k);
+    let c = rows.code(s.todo.node);
     if c < TOTAL {
-        return Verdict::Fine;
+        return Ok(());
     }
-    if c == TOTAL {
-        if v < s.pig {
-            return Verdict::Broken(Kind::Header);
+    match c {
+        TOTAL => {
+            if v < s.pig {
+                return Err(Kind::Header);
+            }
+            Ok(())
         }
-        return Verdict::Fine;
-    }
-    if c == RADIO {
-        if radio_number::allowed(v) {
-            return Verdict::Fine;
+        RADIO => {
+            if radio_number::allowed(v) {
+                return Ok(());
+            }
+            Err(Kind::Value)
         }
-        return Verdict::Broken(Kind::Value);
+        PACKET => packet(v),
+        USER => user(v),
+        DIRECTION => direction(s, v, twice),
+        _ => ranged(rows, s.todo.node, s.level, v),
     }
-    if c == PACKET {
-        return packet(v);
-    }
-    if c == USER {
-        return user(v);
-    }
-    if c == DIRECTION {
-        return direction(s, v, twice);
-    }
-    let l = s.level;
-    ranged(rows, k, l, v)
 }

@@ -2,39 +2,32 @@
 use mathlib.Core.Path.{◌≡◌, sym, ◌∙◌}
 use native.Mathlib.Omega.{arith}
 use Rattle.bits.proofs.Fields.{taken, skipped}
-use Rattle.states.proofs.Front.{front_short, front_lacking, front_other, front_above, front_double, front_whole}
+use Rattle.states.proofs.Front.{front_lacking, front_other, front_above, front_double, front_whole}
 use Rattle.front.proofs.header.Goals as goal
 
--- no 25 bits, and no 25 more
-pub returns-in_default : goal.returns-in_default
-returns-in_default c = front_short _ _ (sym c.take.ensures ∙ c.in_default.is)
-
-pub returns-in_default-skip : goal.returns-in_default-skip
-returns-in_default-skip c =
-    let w = c in
-    front_lacking _ _ (sym w.take.ensures ∙ w.in-Field.is) (sym w.skip.ensures ∙ c.in_default-skip.is)
+-- no 25 bits more behind those 25
+pub returns-in_err-end : goal.returns-in_err-end
+returns-in_err-end c =
+    c.from_residual-in_err-end.ensures
+    ∙ front_lacking _ _ (sym c.take.ensures ∙ c.in_ok-a.was) (sym c.skip.ensures ∙ c.in_err-end.was)
 
 -- a rule is broken
 pub returns-then-a-ne288 : goal.returns-then-a-ne288
 returns-then-a-ne288 c =
-    let w = c in
-    front_other _ _ (sym w.take.ensures ∙ w.in-Field.is) (sym w.skip.ensures ∙ w.in-To.is) c.if-a-ne288.true
+    front_other _ _ (sym c.take.ensures ∙ c.in_ok-a.was) (sym c.skip.ensures ∙ c.in_ok-end.was) c.if-a-ne288.true
 
 pub returns-then-a-pig : goal.returns-then-a-pig
 returns-then-a-pig c =
-    let w = c in
-    front_above _ _ (sym w.take.ensures ∙ w.in-Field.is) (sym w.skip.ensures ∙ w.in-To.is) c.if-a-ne288.false c.if-a-pig.true
+    front_above _ _ (sym c.take.ensures ∙ c.in_ok-a.was) (sym c.skip.ensures ∙ c.in_ok-end.was) c.if-a-ne288.false c.if-a-pig.true
 
 pub returns-then-a-eq3 : goal.returns-then-a-eq3
 returns-then-a-eq3 c =
-    let w = c in
-    front_double _ _ (sym w.take.ensures ∙ w.in-Field.is) (sym w.skip.ensures ∙ w.in-To.is) c.if-a-ne288.false c.if-a-pig.false c.if-a-eq3.true
+    front_double _ _ (sym c.take.ensures ∙ c.in_ok-a.was) (sym c.skip.ensures ∙ c.in_ok-end.was) c.if-a-ne288.false c.if-a-pig.false c.if-a-eq3.true
 
 -- each is kept, and the packets begin at bit 50
 pub returns : goal.returns
 returns c =
-    let w = c in
-    let f = taken _ _ _ _ _ _ (sym w.take.ensures ∙ w.in-Field.is) in
-    let p = skipped _ _ _ _ (sym w.skip.ensures ∙ w.in-To.is) in
-    let e : w.in-To.end.at ≡ 50 = omega (arith, p.past, f.past) in
-    rw e (front_whole _ _ (sym w.take.ensures ∙ w.in-Field.is) (sym w.skip.ensures ∙ w.in-To.is) c.if-a-ne288.false c.if-a-pig.false c.if-a-eq3.false)
+    let f = taken _ _ _ _ _ _ (sym c.take.ensures ∙ c.in_ok-a.was) in
+    let p = skipped _ _ _ _ (sym c.skip.ensures ∙ c.in_ok-end.was) in
+    let e : c.in_ok-end.end.at ≡ 50 = omega (arith, p.past, f.past) in
+    rw (c.fresh.ensures, e) (front_whole _ _ (sym c.take.ensures ∙ c.in_ok-a.was) (sym c.skip.ensures ∙ c.in_ok-end.was) c.if-a-ne288.false c.if-a-pig.false c.if-a-eq3.false)

@@ -1,23 +1,18 @@
 -- `noting::noted` meets its contract: five codes keep something of the value, and no other does. Assumes nothing.
+use native.Mathlib.Omega.{arith}
 use Rattle.states.proofs.Noting.{packet_opens, user_opens, pig_any, nothing}
 use Rattle.noting.proofs.noted.Goals as goal
 
-pub returns-then-c-eq-DIRECTION : goal.returns-then-c-eq-DIRECTION
-returns-then-c-eq-DIRECTION c = rw c.if-c-eq-DIRECTION.true c.directed.ensures
+pub returns-in-7 : goal.returns-in-7
+returns-in-7 c = let a = c.args in rw c.in-7.is (packet_opens a.s a.v)
 
-pub returns-then-c-eq-SIZE : goal.returns-then-c-eq-SIZE
-returns-then-c-eq-SIZE c = rw c.if-c-eq-SIZE.true c.measured.ensures
+pub returns-in-8 : goal.returns-in-8
+returns-in-8 c = let a = c.args in rw c.in-8.is (user_opens a.s a.v)
 
-pub returns-then-c-eq-PACKET : goal.returns-then-c-eq-PACKET
-returns-then-c-eq-PACKET c = let a = c.args in rw c.if-c-eq-PACKET.true (packet_opens a.s a.v)
+pub returns-in-4 : goal.returns-in-4
+returns-in-4 c = let a = c.args in rw c.in-4.is (pig_any a.s a.v)
 
-pub returns-then-c-eq-USER : goal.returns-then-c-eq-USER
-returns-then-c-eq-USER c = let a = c.args in rw c.if-c-eq-USER.true (user_opens a.s a.v)
-
-pub returns-then-c-eq-PIG : goal.returns-then-c-eq-PIG
-returns-then-c-eq-PIG c = let a = c.args in rw c.if-c-eq-PIG.true (pig_any a.s a.v)
-
-pub returns-else-c-eq-PIG : goal.returns-else-c-eq-PIG
-returns-else-c-eq-PIG c =
+pub returns-in_default : goal.returns-in_default
+returns-in_default c =
     let a = c.args in
-    nothing a.s a.v a.c c.if-c-eq-DIRECTION.false c.if-c-eq-SIZE.false c.if-c-eq-PACKET.false c.if-c-eq-USER.false c.if-c-eq-PIG.false
+    nothing a.s a.v a.c (omega arith) (omega arith) (omega arith) (omega arith) (omega arith)

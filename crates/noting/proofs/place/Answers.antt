@@ -14,8 +14,8 @@ returns-in-Behind c = λ l. rw (← c.spot.ensures l, c.in-Behind.is) (sym (mod-
 
 pub returns-in-Outer : goal.returns-in-Outer
 unfolding place_from spot_at
-returns-in-Outer c = λ l. rw (← c.spot.ensures l, c.in-Outer.is) c.wrapping_add_usize.ensures.value
+returns-in-Outer c = λ l. rw (← c.spot.ensures l, c.in-Outer.is)
 
 pub returns-in-Inner : goal.returns-in-Inner
 unfolding place_from spot_at
-returns-in-Inner c = λ l. rw (← c.spot.ensures l, c.in-Inner.is) c.wrapping_add_usize-in-Inner.ensures.value
+returns-in-Inner c = λ l. rw (← c.spot.ensures l, c.in-Inner.is)

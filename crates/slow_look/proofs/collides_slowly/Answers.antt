@@ -17,20 +17,20 @@ returns-in_default c = told c.args.id c.args.dir _ _ (sym c.exempt.ensures ∙ c
 pub returns-then-meets : goal.returns-then-meets
 returns-then-meets c =
     told c.args.id c.args.dir _ _ (sym c.exempt.ensures ∙ c.if-exempt.false)
-    (hops_met c.loop-a.invariant c.take.ensures c.in-Field.is (sym c.meets.ensures ∙ c.if-meets.true))
+    (hops_met c.loop-a.invariant c.take.ensures c.in-Some.is (sym c.meets.ensures ∙ c.if-meets.true))
 
 pub returns-in_default-skip : goal.returns-in_default-skip
 returns-in_default-skip c =
     told c.args.id c.args.dir _ _ (sym c.exempt.ensures ∙ c.if-exempt.false)
-    (hops_past c.loop-a.invariant c.take.ensures c.in-Field.is (sym c.meets.ensures ∙ c.if-meets.false)
+    (hops_past c.loop-a.invariant c.take.ensures c.in-Some.is (sym c.meets.ensures ∙ c.if-meets.false)
     (sym (rw c.behind_head.ensures at c.skip.ensures) ∙ c.in_default-skip.is))
 
 pub loop-a-smaller : goal.loop-a-smaller
 loop-a-smaller c =
-    hops_less c.loop-a.invariant c.take.ensures c.in-Field.is (sym c.meets.ensures ∙ c.if-meets.false)
-    (sym (rw c.behind_head.ensures at c.skip.ensures) ∙ c.in-To.is)
+    hops_less c.loop-a.invariant c.take.ensures c.in-Some.is (sym c.meets.ensures ∙ c.if-meets.false)
+    (sym (rw c.behind_head.ensures at c.skip.ensures) ∙ c.in-Some-skip.is)
 
 pub loop-a-preserved : goal.loop-a-preserved
 loop-a-preserved c =
-    hops_on c.loop-a.invariant c.take.ensures c.in-Field.is (sym c.meets.ensures ∙ c.if-meets.false)
-    (sym (rw c.behind_head.ensures at c.skip.ensures) ∙ c.in-To.is)
+    hops_on c.loop-a.invariant c.take.ensures c.in-Some.is (sym c.meets.ensures ∙ c.if-meets.false)
+    (sym (rw c.behind_head.ensures at c.skip.ensures) ∙ c.in-Some-skip.is)

@@ -4,8 +4,8 @@ use Prim.Native.Nat.{ℕ, ◌+◌, ◌%◌, ◌^◌, ◌<◌, ◌≤◌}
 use native.Mathlib.Nat.{mod-eq_of_lt}
 use native.Mathlib.Omega.{arith}
 use Rattle.format.specs.Rules.{Context, spot_of, spot_at, place_from}
-use Rattle.format.specs.declared.Answer.TheVariants.{Refused}
 use Rattle.format.specs.declared.Kind.{Kind}
+use Rattle.format.specs.declared.Refusal.{Refusal}
 use Rattle.format.specs.declared.Spot.{Spot}
 use Rattle.format.specs.declared.Spot.TheVariants.{Due, Behind, Outer, Inner}
 use Rattle.telegram.proofs.answer.refused.Goals as goal
@@ -22,8 +22,10 @@ module _ (at past : ℕ) (c : Context) (here : at < 2 ^ 64) (behind : past < 2 ^
   unfolding place_from
   counted k = mod-eq_of_lt (small (spot_of k past c))
 
+abbrev refusal : Kind → ℕ → Refusal
+refusal k p = record { kind = k; place = p }
+
 pub returns : goal.returns
 returns c =
     let b = c in
-    λ l. c.refuse.ensures
-    ∙ ap (λ (p : ℕ). Refused (record { kind = b.args.kind; place = p })) (c.place.ensures l ∙ counted _ _ _ b.well_formed.1.0.1.1.0.1 b.ranges.end.fits b.requires.0 b.requires.1 _)
+    λ l. ap (λ (p : ℕ). refusal b.args.kind p) (c.place-place.ensures l ∙ counted _ _ _ b.well_formed.1.0.1.1.0.1 b.ranges.end.fits b.requires.0 b.requires.1 _)

@@ -4,7 +4,7 @@ use Rattle.states.proofs.Walking.{begun_at}
 use Rattle.telegram.proofs.earlier.packet_meets.Goals as goal
 
 pub act-requires : goal.act-requires
-act-requires c = record { table = c.requires.0; inside = c.requires.1.inside }
+act-requires c = c.requires.inside
 
 pub returns : goal.returns
-returns c = c.row_meets.ensures ∙ rw c.act.ensures (begun_at c.args.t c.requires.1 _)
+returns c = c.row_meets.ensures ∙ rw c.act.ensures (begun_at c.args.t c.requires _)

@@ -6,4 +6,4 @@ use Rattle.telegram.proofs.labels.number.Goals as goal
 pub returns : goal.returns
 returns c =
     let b = c in
-    c.named.ensures ∙ rw (b.act.ensures, b.requires.1, number_at b.args.k b.requires.0.inside)
+    c.named.ensures ∙ rw (b.act.ensures, b.requires.1, number_at b.args.k b.requires.0)

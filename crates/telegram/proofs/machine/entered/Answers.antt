@@ -4,8 +4,8 @@ use Rattle.states.proofs.Stepping.{entered_mark, entered_on, width_in}
 use Rattle.format.specs.Table.{field_at}
 use Rattle.telegram.proofs.machine.entered.Goals as goal
 
-pub overflow_add-n : goal.overflow_add-n
-overflow_add-n c =
+pub overflow_add-at : goal.overflow_add-at
+overflow_add-at c =
     let a = c in
     let w = width_in (field_at a.args.s.todo.node) in
     omega (arith, a.requires.low, c.noted-n.ensures.here, c.width.ensures)
@@ -16,20 +16,17 @@ settled-requires c =
     let n = c.noted-n.ensures in
     let first : _ = a.requires.sound.first in
     record {
-      table = a.requires.table;
-      sound = record {
-        tidy = (rw c.in-On.is at c.advance.ensures).tidy;
-        first = omega (arith, a.requires.sound.first, n.here, n.first);
-        second = omega (arith, n.second a.requires.sound.second, n.here);
-      };
+      tidy = (rw c.in-Some.is at c.advance.ensures).tidy;
+      first = omega (arith, a.requires.sound.first, n.here, n.first);
+      second = omega (arith, n.second a.requires.sound.second, n.here);
     }
 
-pub returns-in-Mark : goal.returns-in-Mark
-returns-in-Mark c = let a = c.args in entered_mark a.s a.v (rw c.in-Mark.is at c.advance.ensures)
+pub returns-in_default : goal.returns-in_default
+returns-in_default c = let a = c.args in entered_mark a.s a.v (rw c.in_default.is at c.advance.ensures)
 
-pub returns-in-On : goal.returns-in-On
-returns-in-On c =
+pub returns : goal.returns
+returns c =
     let a = c.args in
     let n = c.noted-n in
-    entered_on a.s a.v _ n.result _ c.settled.result (rw c.in-On.is at c.advance.ensures)
+    entered_on a.s a.v _ n.result _ c.settled.result (rw c.in-Some.is at c.advance.ensures)
     (rw (← c.code.ensures) n.ensures) (omega (arith, n.ensures.here, c.width.ensures)) c.settled.ensures

@@ -1,14 +1,17 @@
 -- `telegram::machine::step` meets its contract: the value's rule first, then what follows it. Assumes nothing.
+use Rattle.std.specs.Prelude.{Err}
+use mathlib.Core.Path.{◌≡◌}
+use borrow.Author.Rules.{rules}
 use Rattle.states.proofs.Stepping.{stepped_breaks, stepped_goes}
 use Rattle.telegram.proofs.machine.step.Goals as goal
 
-pub returns-in-Broken : goal.returns-in-Broken
-returns-in-Broken c =
-    let a = c in
-    stepped_breaks a.args.s a.args.v a.args.twice a.requires.sound _ (rw c.in-Broken.is at c.judge.ensures)
+pub returns-in_err-judge : goal.returns-in_err-judge
+returns-in_err-judge c =
+    let a = c.args in
+    let passed_on : c.from_residual.result ≡ Err c.in_err-judge.field-0.0 = search rules in
+    rw passed_on (stepped_breaks a.s a.v a.twice c.requires.sound _ c.in_err-judge.ensures)
 
-pub returns-in-Fine : goal.returns-in-Fine
-returns-in-Fine c =
-    let a = c in
-    stepped_goes a.args.s a.args.v a.args.twice a.requires.sound c.entered.result
-    (rw c.in-Fine.is at c.judge.ensures) c.entered.ensures
+pub returns : goal.returns
+returns c =
+    let a = c.args in
+    stepped_goes a.s a.v a.twice c.requires.sound c.entered.result c.in_ok-judge.ensures c.entered.ensures

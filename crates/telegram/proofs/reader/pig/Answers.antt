@@ -5,15 +5,15 @@ use native.Mathlib.Omega.{arith}
 use Rattle.bits.proofs.Fields.{taken, take_whole}
 use Rattle.telegram.proofs.reader.pig.Goals as goal
 
-pub returns-in-Field : goal.returns-in-Field
-returns-in-Field c =
+pub returns-in-Some : goal.returns-in-Some
+returns-in-Some c =
     let a = c.args in
-    let f = taken a.s.now a.n 3 9 _ _ (sym c.take.ensures ∙ c.in-Field.is) in
+    let f = taken a.s.now a.n 3 9 _ _ (sym c.take.ensures ∙ c.in-Some.is) in
     f.value
 
-pub returns-in-Short : goal.returns-in-Short
-returns-in-Short c =
+pub returns-in-None : goal.returns-in-None
+returns-in-None c =
     let a = c.args in
-    let e = sym (take_whole a.s.now a.n 3 9 (omega arith) (omega arith) (omega arith)) ∙ sym c.take.ensures ∙ c.in-Short.is in
+    let e = sym (take_whole a.s.now a.n 3 9 (omega arith) (omega arith) (omega arith)) ∙ sym c.take.ensures ∙ c.in-None.is in
     let z : ◌≡◌ {A = ℕ} 0 1 = cc in
     absurd (omega arith)

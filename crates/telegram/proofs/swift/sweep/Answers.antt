@@ -1,10 +1,11 @@
 -- `telegram::swift::sweep` meets its contract: from packet's edge to packet's edge. The measure is how many bits are left. Assumes nothing.
 use mathlib.Core.Bool.{true}
-use mathlib.Core.Path.{◌≡◌, sym, ◌∙◌}
+use mathlib.Core.Logic.{inl, inr}
+use mathlib.Core.Path.{◌≡◌, refl, sym, ◌∙◌}
 use Prim.Native.Nat.{ℕ, ◌+◌, ◌≤◌, ◌<◌}
 use native.Mathlib.Omega.{arith}
-use Rattle.bits.proofs.Sight.{IsAhead, sighted}
-use Rattle.counted.proofs.Copied.{stopped_at, stopped_first, both, hopped_on}
+use Rattle.bits.proofs.Sight.{sighted}
+use Rattle.counted.proofs.Copied.{both, hopped_on}
 use Rattle.counted.proofs.Spans.{packet_kept, packet_metres_lem}
 use Rattle.passing.proofs.Sorts.{Kept, kept_long}
 use Rattle.passing.proofs.Sweeping.{Edge, front_at, edge_front, edge_on, edge_few, edge_within}
@@ -13,12 +14,12 @@ use Rattle.telling.proofs.Hopped.Hopped.{there as here}
 use Rattle.telegram.proofs.swift.sweep.Goals as goal
 
 pub returns-in_default : goal.returns-in_default
-returns-in_default c = stopped_first c.args.s.now c.args.n c.stopped.ensures
+returns-in_default c = inl (refl, refl)
 
 pub loop-w-init : goal.loop-w-init
 loop-w-init c =
     let s = c.args.s.now in
-    let e = sym c.header.ensures ∙ c.in-To.is in
+    let e = sym c.header.ensures ∙ c.in-Some.is in
     (edge_front s c.args.n e c.requires.0, λ h. rw (front_at s c.args.n e) here)
 
 pub ended-requires : goal.ended-requires
@@ -28,16 +29,16 @@ pub returns-in_default-ahead : goal.returns-in_default-ahead
 returns-in_default-ahead c = c.ended.ensures
 
 pub returns-then-p-eq0 : goal.returns-then-p-eq0
-returns-then-p-eq0 c = stopped_at c.loop-w.invariant.0 c.stopped-then-p-eq0.ensures
+returns-then-p-eq0 c = inr c.loop-w.invariant.0
 
 pub returns-then-collides_from_both : goal.returns-then-collides_from_both
-returns-then-collides_from_both c = stopped_at c.loop-w.invariant.0 c.stopped-then-collides_from_both.ensures
+returns-then-collides_from_both c = inr c.loop-w.invariant.0
 
 pub overflow_add-c : goal.overflow_add-c
 overflow_add-c c =
     let long : ℕ = c.behind-long.result in
     let some : 0 < c.packet-p.result.values = omega arith in
-    let there : IsAhead c.args.s.now c.args.n 23 c.loop-w.c.at c.in-Field.w c.in-Field.field-1.at = sighted c.args.s.now c.args.n 23 c.loop-w.c.at _ _ (sym c.ahead.ensures ∙ c.in-Field.is) in
+    let there = sighted c.args.s.now c.args.n 23 c.loop-w.c.at _ _ (sym c.ahead.ensures ∙ c.in-Some-ahead.is) in
     let kept : Kept c.args.s.now c.loop-w.c.at long c.packet-p.result.values × (c.loop-w.c.at + long ≤ c.args.n) = rw (← c.packet-p.ensures) at
     (packet_kept c.args.s.now c.args.n there.ahead there.room long (rw c.packet-p.ensures at some)) in
     let following : Edge c.args.s.now c.args.n (c.loop-w.c.at + long) (c.loop-w.count + c.packet-p.result.values) = edge_on c.loop-w.invariant.0 there.ahead kept.0 c.behind-long.ensures kept.1
@@ -48,7 +49,7 @@ pub overflow_add-count : goal.overflow_add-count
 overflow_add-count c =
     let long : ℕ = c.behind-long.result in
     let some : 0 < c.packet-p.result.values = omega arith in
-    let there : IsAhead c.args.s.now c.args.n 23 c.loop-w.c.at c.in-Field.w c.in-Field.field-1.at = sighted c.args.s.now c.args.n 23 c.loop-w.c.at _ _ (sym c.ahead.ensures ∙ c.in-Field.is) in
+    let there = sighted c.args.s.now c.args.n 23 c.loop-w.c.at _ _ (sym c.ahead.ensures ∙ c.in-Some-ahead.is) in
     let kept : Kept c.args.s.now c.loop-w.c.at long c.packet-p.result.values × (c.loop-w.c.at + long ≤ c.args.n) = rw (← c.packet-p.ensures) at
     (packet_kept c.args.s.now c.args.n there.ahead there.room long (rw c.packet-p.ensures at some)) in
     let following : Edge c.args.s.now c.args.n (c.loop-w.c.at + long) (c.loop-w.count + c.packet-p.result.values) = edge_on c.loop-w.invariant.0 there.ahead kept.0 c.behind-long.ensures kept.1
@@ -59,7 +60,7 @@ pub loop-w-smaller : goal.loop-w-smaller
 loop-w-smaller c =
     let long : ℕ = c.behind-long.result in
     let some : 0 < c.packet-p.result.values = omega arith in
-    let there : IsAhead c.args.s.now c.args.n 23 c.loop-w.c.at c.in-Field.w c.in-Field.field-1.at = sighted c.args.s.now c.args.n 23 c.loop-w.c.at _ _ (sym c.ahead.ensures ∙ c.in-Field.is) in
+    let there = sighted c.args.s.now c.args.n 23 c.loop-w.c.at _ _ (sym c.ahead.ensures ∙ c.in-Some-ahead.is) in
     let kept : Kept c.args.s.now c.loop-w.c.at long c.packet-p.result.values × (c.loop-w.c.at + long ≤ c.args.n) = rw (← c.packet-p.ensures) at
     (packet_kept c.args.s.now c.args.n there.ahead there.room long (rw c.packet-p.ensures at some)) in
     let k = kept in
@@ -69,7 +70,7 @@ pub loop-w-preserved : goal.loop-w-preserved
 loop-w-preserved c =
     let long : ℕ = c.behind-long.result in
     let some : 0 < c.packet-p.result.values = omega arith in
-    let there : IsAhead c.args.s.now c.args.n 23 c.loop-w.c.at c.in-Field.w c.in-Field.field-1.at = sighted c.args.s.now c.args.n 23 c.loop-w.c.at _ _ (sym c.ahead.ensures ∙ c.in-Field.is) in
+    let there = sighted c.args.s.now c.args.n 23 c.loop-w.c.at _ _ (sym c.ahead.ensures ∙ c.in-Some-ahead.is) in
     let kept : Kept c.args.s.now c.loop-w.c.at long c.packet-p.result.values × (c.loop-w.c.at + long ≤ c.args.n) = rw (← c.packet-p.ensures) at
     (packet_kept c.args.s.now c.args.n there.ahead there.room long (rw c.packet-p.ensures at some)) in
     let following : Edge c.args.s.now c.args.n (c.loop-w.c.at + long) (c.loop-w.count + c.packet-p.result.values) = edge_on c.loop-w.invariant.0 there.ahead kept.0 c.behind-long.ensures kept.1

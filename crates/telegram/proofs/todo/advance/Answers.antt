@@ -8,9 +8,9 @@ use Rattle.telegram.proofs.todo.advance.Goals as goal
 pub act-requires-2 : goal.act-requires-2
 act-requires-2 c =
     let a = c in
-    let l = next_in a.args.t.node a.requires.0.inside (omega arith) in record { table = a.requires.0.table; inside = omega arith }
+    let l = next_in a.args.t.node a.requires.inside (omega arith) in omega arith
 
 pub returns : goal.returns
 returns c =
     let a = c in
-    advances_next a.args.t a.args.v a.requires.1 (omega arith) (λ e. c.if-act-eq-END.false (c.act-2.ensures ∙ e))
+    advances_next a.args.t a.args.v a.requires (omega arith) (λ e. c.if-act-eq-END.false (c.act-2.ensures ∙ e))

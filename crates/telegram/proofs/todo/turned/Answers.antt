@@ -14,25 +14,25 @@ pub back-u-requires : goal.back-u-requires
 back-u-requires c = (c.requires, sym c.act.ensures ∙ c.if-act-ne-END.false)
 
 pub returns-then-u-eq0 : goal.returns-then-u-eq0
-returns-then-u-eq0 c = turns_none c.args.t _ c.requires.inside (sym c.act.ensures ∙ c.if-act-ne-END.false) c.back-u.ensures c.if-u-eq0.true
+returns-then-u-eq0 c = turns_none c.args.t _ c.requires (sym c.act.ensures ∙ c.if-act-ne-END.false) c.back-u.ensures c.if-u-eq0.true
 
 pub overflow_add-result : goal.overflow_add-result
-overflow_add-result c = omega (arith, c.requires.inside)
+overflow_add-result c = omega (arith, c.requires)
 
 pub returns-then-t-eq0 : goal.returns-then-t-eq0
 returns-then-t-eq0 c =
     let e = sym c.act.ensures ∙ c.if-act-ne-END.false in
     let n = c.if-u-eq0.false in
     let u = c.back-u.ensures in
-    let g = group_out c.args.t.node c.requires.inside e (omega arith) in
-    turns_out c.args.t _ c.requires.inside e u n _ c.if-t-eq0.true (add-one c.args.t.node ∙ sym g ∙ ap jump (sym u))
+    let g = group_out c.args.t.node c.requires e (omega arith) in
+    turns_out c.args.t _ c.requires e u n _ c.if-t-eq0.true (add-one c.args.t.node ∙ sym g ∙ ap jump (sym u))
 
 pub overflow_add-result-2 : goal.overflow_add-result-2
-overflow_add-result-2 c = let l = jump_in c.args.t.node c.requires.inside in omega (arith, c.back-u.ensures)
+overflow_add-result-2 c = let l = jump_in c.args.t.node c.requires in omega (arith, c.back-u.ensures)
 
 pub overflow_sub-result : goal.overflow_sub-result
 overflow_sub-result c = let n = c.if-t-eq0.false in omega arith
 
 pub returns : goal.returns
 returns c =
-    turns_again c.args.t _ c.requires.inside (sym c.act.ensures ∙ c.if-act-ne-END.false) c.back-u.ensures c.if-u-eq0.false _ c.if-t-eq0.false refl
+    turns_again c.args.t _ c.requires (sym c.act.ensures ∙ c.if-act-ne-END.false) c.back-u.ensures c.if-u-eq0.false _ c.if-t-eq0.false refl

@@ -25,16 +25,16 @@ returns-then-v-s c =
     let a = b.args in
     let x = context_of l a.s in
     let f = field_at a.s.todo.node in
-    total_under a.s.pig a.v c.if-v-s.true ∙ judge_total p x f a.v (sym b.code-c.ensures ∙ c.if-c-eq-TOTAL.true)
+    total_under a.s.pig a.v c.if-v-s.true ∙ judge_total p x f a.v (sym b.code-c.ensures ∙ c.in-5.is)
 
-pub returns-then-c-eq-TOTAL : goal.returns-then-c-eq-TOTAL
-returns-then-c-eq-TOTAL c =
+pub returns-else-v-s : goal.returns-else-v-s
+returns-else-v-s c =
     λ p l h.
     let b = c in
     let a = b.args in
     let x = context_of l a.s in
     let f = field_at a.s.todo.node in
-    total_fits a.s.pig a.v c.if-v-s.false ∙ judge_total p x f a.v (sym b.code-c.ensures ∙ c.if-c-eq-TOTAL.true)
+    total_fits a.s.pig a.v c.if-v-s.false ∙ judge_total p x f a.v (sym b.code-c.ensures ∙ c.in-5.is)
 
 pub returns-then-allowed : goal.returns-then-allowed
 returns-then-allowed c =
@@ -44,48 +44,48 @@ returns-then-allowed c =
     let x = context_of l a.s in
     let f = field_at a.s.todo.node in
     ap (λ (q : Bool). unless q Value) (sym c.if-allowed.true ∙ c.allowed.ensures)
-    ∙ judge_radio p x f a.v (sym b.code-c.ensures ∙ c.if-c-eq-RADIO.true)
+    ∙ judge_radio p x f a.v (sym b.code-c.ensures ∙ c.in-6.is)
 
-pub returns-then-c-eq-RADIO : goal.returns-then-c-eq-RADIO
-returns-then-c-eq-RADIO c =
+pub returns-else-allowed : goal.returns-else-allowed
+returns-else-allowed c =
     λ p l h.
     let b = c in
     let a = b.args in
     let x = context_of l a.s in
     let f = field_at a.s.todo.node in
     ap (λ (q : Bool). unless q Value) (sym c.if-allowed.false ∙ c.allowed.ensures)
-    ∙ judge_radio p x f a.v (sym b.code-c.ensures ∙ c.if-c-eq-RADIO.true)
+    ∙ judge_radio p x f a.v (sym b.code-c.ensures ∙ c.in-6.is)
 
-pub returns-then-c-eq-PACKET : goal.returns-then-c-eq-PACKET
-returns-then-c-eq-PACKET c =
+pub returns-in-7 : goal.returns-in-7
+returns-in-7 c =
     λ p l h.
     let b = c in
     let a = b.args in
     let x = context_of l a.s in
     let f = field_at a.s.todo.node in
-    c.packet.ensures ∙ judge_packet p x f a.v (sym b.code-c.ensures ∙ c.if-c-eq-PACKET.true)
+    c.packet.ensures ∙ judge_packet p x f a.v (sym b.code-c.ensures ∙ c.in-7.is)
 
-pub returns-then-c-eq-USER : goal.returns-then-c-eq-USER
-returns-then-c-eq-USER c =
+pub returns-in-8 : goal.returns-in-8
+returns-in-8 c =
     λ p l h.
     let b = c in
     let a = b.args in
     let x = context_of l a.s in
     let f = field_at a.s.todo.node in
-    c.user.ensures ∙ judge_user p x f a.v (sym b.code-c.ensures ∙ c.if-c-eq-USER.true)
+    c.user.ensures ∙ judge_user p x f a.v (sym b.code-c.ensures ∙ c.in-8.is)
 
-pub returns-then-c-eq-DIRECTION : goal.returns-then-c-eq-DIRECTION
-returns-then-c-eq-DIRECTION c =
+pub returns-in-9 : goal.returns-in-9
+returns-in-9 c =
     λ p l h.
     let b = c in
     let a = b.args in
     let x = context_of l a.s in
     let f = field_at a.s.todo.node in
-    let e = sym b.code-c.ensures ∙ c.if-c-eq-DIRECTION.true in
+    let e = sym b.code-c.ensures ∙ c.in-9.is in
     c.direction.ensures p l (h (rule_direction f e)) ∙ judge_direction p x f a.v e
 
-pub returns : goal.returns
-returns c =
+pub returns-in_default : goal.returns-in_default
+returns-in_default c =
     λ p l h.
     let b = c in
     let a = b.args in

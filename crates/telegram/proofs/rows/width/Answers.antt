@@ -1,7 +1,0 @@
--- `telegram::rows::width` meets its contract: the seven bits of a row's word above the act are the width of its field.
--- Assumes nothing.
-use Rattle.format.proofs.Rows.{word_width}
-use Rattle.telegram.proofs.rows.width.Goals as goal
-
-pub returns : goal.returns
-returns c = rw c.requires.table (word_width c.args.k c.requires.inside)
