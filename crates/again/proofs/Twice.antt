@@ -1,18 +1,17 @@
 -- Reading and then writing, and writing and then reading, by what each promises alone: the laws that reading and writing are inverse, and
 -- that bytes with clear unused bits are the bytes of their bits. For any terms. Assumes nothing.
+use Rattle.std.specs.Prelude.{Ok, Err}
 use mathlib.Core.List.{List}
 use mathlib.Core.Path.{◌≡◌, refl, sym, ap, ◌∙◌}
 use Prim.Native.Nat.{ℕ, ◌≤◌, ◌<◌}
 use lib.ListN.{length, take}
 use Rattle.bits.specs.Bits.{bytes_of, bytes_for, Below}
-use Rattle.format.specs.Refusals.{in_numbers}
+use Rattle.format.specs.Refusals.{in_numbers, Answer}
 use Rattle.format.specs.Rules.{Terms}
 use Rattle.format.specs.Telegrams.{Entry, Result, Telegram, bits, values, bit_count, write}
 use Rattle.format.specs.Telegrams.Result.{accepted, refused}
 use Rattle.format.specs.declared.Kind.TheVariants.{Room}
 use Rattle.format.specs.declared.Refusal.{Refusal}
-use Rattle.format.specs.declared.Answer.{Answer}
-use Rattle.format.specs.declared.Answer.TheVariants.{Accepted, Refused}
 use Rattle.laws.proofs.Demand2.{length_bits, writes}
 use Rattle.states.specs.Reader.{early, checked, read_into, Read}
 use Rattle.states.specs.Writer.{write_into, Write}
@@ -46,7 +45,7 @@ module _ (p : Terms) (s : List ℕ) (n : ℕ) (run out : List ℕ) where
   abbrev after_read : Result
   after_read = read_into p s n (length run)
 
-  pub no_room_to_write : length out < 104 → Rewritten p s n run out (Refused (early Room)) run out
+  pub no_room_to_write : length out < 104 → Rewritten p s n run out (Err (early Room)) run out
   no_room_to_write h =
       let f = without_room 104 (length out) after_read h in
       record { answers = rw f; values = rw f; telegram = rw f }
@@ -55,13 +54,13 @@ module _ (p : Terms) (s : List ℕ) (n : ℕ) (run out : List ℕ) where
   as_read room = with_room 104 (length out) after_read room
 
   module _ (run_after : List ℕ) (room : 104 ≤ length out) where
-    pub read_refused : {a : Answer} {r : Refusal} → Read p s n run a run_after → a ≡ Refused r → Rewritten p s n run out a run_after out
+    pub read_refused : {a : Answer} {r : Refusal} → Read p s n run a run_after → a ≡ Err r → Rewritten p s n run out a run_after out
     read_refused {a} {r} h e =
         let f : after_read ≡ refused r = (answer_refused after_read r).0 (sym e ∙ read_answer h) in
         let g = as_read room ∙ f in
         record { answers = rw g (ap in_numbers e); values = rw (as_read room) h.contents; telegram = rw g }
 
-    module _ {a : Answer} {count : ℕ} (h : Read p s n run a run_after) (e : a ≡ Accepted count) where
+    module _ {a : Answer} {count : ℕ} (h : Read p s n run a run_after) (e : a ≡ Ok count) where
       -- the values that were read are there to be lent
       pub lent : count ≤ length run_after
       lent = stored_lent (read_stores h e)
@@ -88,7 +87,7 @@ module _ (p : Terms) (vs out run : List ℕ) where
   abbrev after_write : Result
   after_write = write_into p vs (length out)
 
-  pub no_room_to_read : length run < 830 → Reread p vs out run (Refused (early Room)) out run
+  pub no_room_to_read : length run < 830 → Reread p vs out run (Err (early Room)) out run
   no_room_to_read h =
       let f = without_room 830 (length run) after_write h in
       record { answers = rw f; telegram = rw f; values = rw f }
@@ -97,13 +96,13 @@ module _ (p : Terms) (vs out run : List ℕ) where
   as_written room = with_room 830 (length run) after_write room
 
   module _ (out_after : List ℕ) (room : 830 ≤ length run) where
-    pub write_refused : {a : Answer} {r : Refusal} → Write p vs out a out_after → a ≡ Refused r → Reread p vs out run a out_after run
+    pub write_refused : {a : Answer} {r : Refusal} → Write p vs out a out_after → a ≡ Err r → Reread p vs out run a out_after run
     write_refused {a} {r} h e =
         let f : after_write ≡ refused r = was_refused bit_count after_write a r (write_answer h) e in
         let g = as_written room ∙ f in
         record { answers = rw g (ap in_numbers e); telegram = rw (as_written room) h.contents; values = rw g }
 
-    module _ {a : Answer} {n : ℕ} (h : Write p vs out a out_after) (e : a ≡ Accepted n) where
+    module _ {a : Answer} {n : ℕ} (h : Write p vs out a out_after) (e : a ≡ Ok n) where
       -- the bytes that were written are there to be lent
       pub lent_bytes : bytes_for n ≤ length out_after
       lent_bytes = stored_lent (write_stores h e)

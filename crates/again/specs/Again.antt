@@ -1,11 +1,10 @@
 -- Demand 2: "What is read and written again is the same telegram; what is written and read again is the same list of values".
 -- Definitions alone.
 use Rattle.std.specs.Prelude.{List, ◌++◌, ◌≡◌, ℕ, length, drop}
-use Rattle.format.specs.Refusals.{in_numbers}
+use Rattle.format.specs.Refusals.{in_numbers, Answer}
 use Rattle.format.specs.Rules.{Terms}
 use Rattle.format.specs.Telegrams.{Result}
 use Rattle.format.specs.Telegrams.Result.{accepted, refused}
-use Rattle.format.specs.declared.Answer.{Answer}
 use Rattle.states.specs.Reader.{values_needed, bytes_needed, roomed, answered, read_into, values_over}
 use Rattle.states.specs.Writer.{write_into, bytes_over}
 

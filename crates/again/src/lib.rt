@@ -5,40 +5,28 @@
 ghost use Rattle.format.specs.Rules.{paper};
 ghost use Rattle.again.specs.Again.{Rewritten, Reread};
 
-use format::{Answer, Kind, Refusal};
+use format::{Kind, Refusal};
 
 // Reads the telegram s of n bits into run, and writes what was read into out: n, and s again. A refusal leaves both as they were: the room in out
 // is tested before anything is stored, and what was read is never refused by the writer.
-pub fn rewritten(s: &[u8], n: usize, run: &mut [u64], out: &mut [u8]) -> Answer
+pub fn rewritten(s: &[u8], n: usize, run: &mut [u64], out: &mut [u8]) -> Result<usize, Refusal>
     ensures { Rewritten paper s.now n run.old out.old result run.new out.new }
 {
     if out.len() < 104 {
-        return Answer::Refused(Refusal {
-            kind: Kind::Room,
-            place: 0,
-        });
+        return Err(Refusal::at_once(Kind::Room));
     }
-    let a = telegram::read(s, n, run);
-    let Answer::Accepted(count) = a else {
-        return a;
-    };
+    let count = telegram::read(s, n, run)?;
     telegram::write(&run[..count], out)
 }
 
 // Writes the telegram with these values into out, and reads what was written into run: the count of the values, and the values again. A refusal
 // leaves both as they were: the room in run is tested before anything is stored, and what was written is never refused by the reader.
-pub fn reread(values: &[u64], out: &mut [u8], run: &mut [u64]) -> Answer
+pub fn reread(values: &[u64], out: &mut [u8], run: &mut [u64]) -> Result<usize, Refusal>
     ensures { Reread paper values.now out.old run.old result out.new run.new }
 {
     if run.len() < 830 {
-        return Answer::Refused(Refusal {
-            kind: Kind::Room,
-            place: 0,
-        });
+        return Err(Refusal::at_once(Kind::Room));
     }
-    let a = telegram::write(values, out);
-    let Answer::Accepted(n) = a else {
-        return a;
-    };
+    let n = telegram::write(values, out)?;
     telegram::read(&out[..bits::bytes_for(n)], n, run)
 }

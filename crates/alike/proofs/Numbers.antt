@@ -1,11 +1,13 @@
 -- What is answered of two telegrams is known by its numbers. Assumes nothing.
+use Rattle.std.specs.Prelude.{Ok, true, false, Err, Result, Bool}
 use mathlib.Core.Path.{◌≡◌, refl, ap}
 use Prim.Native.Nat.{ℕ}
 use native.Mathlib.Omega.{arith}
+use Rattle.format.specs.declared.Refusal.{Refusal}
 use Rattle.format.proofs.Numbers.{refusal_is}
 use Rattle.alike.specs.Pairs.{in_numbers}
-use Rattle.alike.specs.declared.Alike.{Alike}
-use Rattle.alike.specs.declared.Alike.TheVariants.{Same, Other, First, Second}
+use Rattle.alike.specs.declared.PairError.TheVariants.{First, Second}
+use Rattle.alike.specs.declared.PairError.{PairError}
 
 abbrev Numbers : Type 0
 Numbers = ℕ × ℕ × ℕ
@@ -19,20 +21,20 @@ number h = ap (λ (x : Numbers). x.1) h
 value : {x y : Numbers} → x ≡ y → x.2 ≡ y.2
 value h = ap (λ (x : Numbers). x.2) h
 
-pub alike_is : (a b : Alike) → in_numbers a ≡ in_numbers b → a ≡ b
-alike_is Same Same h = refl
-alike_is Same Other h = absurd (omega (arith, value h))
-alike_is Same (First q) h = absurd (omega (arith, which h))
-alike_is Same (Second q) h = absurd (omega (arith, which h))
-alike_is Other Same h = absurd (omega (arith, value h))
-alike_is Other Other h = refl
-alike_is Other (First q) h = absurd (omega (arith, which h))
-alike_is Other (Second q) h = absurd (omega (arith, which h))
-alike_is (First r) Same h = absurd (omega (arith, which h))
-alike_is (First r) Other h = absurd (omega (arith, which h))
-alike_is (First r) (First q) h = ap First (refusal_is r q (number h) (value h))
-alike_is (First r) (Second q) h = absurd (omega (arith, which h))
-alike_is (Second r) Same h = absurd (omega (arith, which h))
-alike_is (Second r) Other h = absurd (omega (arith, which h))
-alike_is (Second r) (First q) h = absurd (omega (arith, which h))
-alike_is (Second r) (Second q) h = ap Second (refusal_is r q (number h) (value h))
+pub alike_is : (a b : Result Bool PairError) → in_numbers a ≡ in_numbers b → a ≡ b
+alike_is (Ok true) (Ok true) h = refl
+alike_is (Ok true) (Ok false) h = absurd (omega (arith, value h))
+alike_is (Ok true) (Err (First q)) h = absurd (omega (arith, which h))
+alike_is (Ok true) (Err (Second q)) h = absurd (omega (arith, which h))
+alike_is (Ok false) (Ok true) h = absurd (omega (arith, value h))
+alike_is (Ok false) (Ok false) h = refl
+alike_is (Ok false) (Err (First q)) h = absurd (omega (arith, which h))
+alike_is (Ok false) (Err (Second q)) h = absurd (omega (arith, which h))
+alike_is (Err (First r)) (Ok true) h = absurd (omega (arith, which h))
+alike_is (Err (First r)) (Ok false) h = absurd (omega (arith, which h))
+alike_is (Err (First r)) (Err (First q)) h = ap (λ (x : Refusal). Err (First x)) (refusal_is r q (number h) (value h))
+alike_is (Err (First r)) (Err (Second q)) h = absurd (omega (arith, which h))
+alike_is (Err (Second r)) (Ok true) h = absurd (omega (arith, which h))
+alike_is (Err (Second r)) (Ok false) h = absurd (omega (arith, which h))
+alike_is (Err (Second r)) (Err (First q)) h = absurd (omega (arith, which h))
+alike_is (Err (Second r)) (Err (Second q)) h = ap (λ (x : Refusal). Err (Second x)) (refusal_is r q (number h) (value h))

@@ -1,9 +1,11 @@
 -- Two telegrams compared by their normal forms, by what the check and the normaliser promise alone: no two telegrams have the same bytes. For any
 -- terms. Assumes nothing.
-use mathlib.Core.Bool.{Bool, true, false, cond}
+use Rattle.std.specs.Prelude.{Ok, true, false, Err, Decides, MatchResult, IsErrAnd}
+use Rattle.std.proofs.lemmas.Result.{err_from_is_err_and}
+use mathlib.Core.Bool.{Bool, true, false}
 use mathlib.Core.List.{List}
 use mathlib.Core.Logic.{◌≢◌}
-use mathlib.Core.Path.{◌≡◌, refl, sym, ap, ◌∙◌}
+use mathlib.Core.Path.{◌≡◌, refl, sym, ap, ◌∙◌, subst}
 use Prim.Native.Nat.{ℕ, ◌≤◌, ◌<◌}
 use native.Mathlib.Omega.{arith}
 use borrow.Author.Tests.{le-leb, lt-leb}
@@ -15,15 +17,17 @@ use Rattle.format.specs.Telegrams.{Entry, bits}
 use Rattle.format.specs.Telegrams.Result.{accepted, refused}
 use Rattle.format.specs.declared.Kind.TheVariants.{Room}
 use Rattle.format.specs.declared.Refusal.{Refusal}
-use Rattle.format.specs.declared.Answer.{Answer}
 use Rattle.states.specs.Reader.{early, checked}
 use Rattle.states.specs.Normaliser.{Normalise}
 use Rattle.states.proofs.Accepting.{one_telegram}
 use Rattle.normals.specs.Normals.{Ready}
 use Rattle.alike.specs.Pairs.{pair_into, SaysSame}
 use Rattle.alike.specs.Pairs.Pair.{both}
-use Rattle.alike.specs.declared.Alike.TheVariants.{Same, Other, First, Second}
 use Rattle.normals.proofs.Forms.{form, form_telegram, bits_long, holds, front}
+use Rattle.format.specs.Refusals.{Answer}
+use Rattle.alike.specs.declared.PairError.TheVariants.{First, Second}
+use Rattle.alike.specs.declared.PairError.{PairError}
+use Rattle.std.specs.Prelude as code
 
 -- ---- lists compared
 
@@ -35,31 +39,51 @@ same_false bs cs d = by_test (same bs cs) refl
     by_test false e = refl
 
 -- a flag is not both
-pub unlike : {t : Bool} → t ≡ true → t ≡ false → ⊥
+unlike : {t : Bool} → t ≡ true → t ≡ false → ⊥
 unlike h e = let z : ◌≡◌ {A = ℕ} 0 1 = cc in omega arith
+
+-- ---- which of the two `map_err` says is refused
+
+module _ (a : Answer) (m : code.Result ℕ PairError) (P : Refusal → PairError → Type 0) (h : MatchResult a (λ n. m ≡ Ok n) (λ r. IsErrAnd m (P r))) where
+  pub accepted_as : {n : ℕ} → m ≡ Ok n → a ≡ Ok n
+  accepted_as = by a h
+    where
+      by : (x : Answer) → MatchResult x (λ n. m ≡ Ok n) (λ r. IsErrAnd m (P r)) → {n : ℕ} → m ≡ Ok n → x ≡ Ok n
+      by (Ok k) g e = cc
+      by (Err r) g e = let p = err_from_is_err_and m g in let q = p.1 in let z : ◌≡◌ {A = ℕ} 0 1 = cc in absurd (omega arith)
+
+  pub refused_as : {e : PairError} → m ≡ Err e → (r : Refusal) × (a ≡ Err r) × P r e
+  refused_as = by a h
+    where
+      by : (x : Answer) → MatchResult x (λ n. m ≡ Ok n) (λ r. IsErrAnd m (P r)) → {e : PairError} → m ≡ Err e → (r : Refusal) × (x ≡ Err r) × P r e
+      by (Ok k) g e = let z : ◌≡◌ {A = ℕ} 0 1 = cc in absurd (omega arith)
+      by (Err r) g {e} i =
+          let p = err_from_is_err_and m g in
+          let one : p.0 ≡ e = let q = p.1 in cc in
+          (r, refl, subst (P r) one p.2)
 
 -- ---- one of the two is refused, or has no room
 
 module _ (p : Terms) (s : List ℕ) (n : ℕ) (t : List ℕ) (m : ℕ) (x y : List ℕ) where
-  pub no_room_for_first : length x < 104 → SaysSame p s n t m x y (First (early Room)) x y
+  pub no_room_for_first : length x < 104 → SaysSame p s n t m x y (Err (First (early Room))) x y
   no_room_for_first h = let f = lt-leb 104 (length x) h in record { answers = rw f; first = rw f; second = rw f }
 
   module _ (rx : 104 ≤ length x) where
-    pub no_room_for_other : length y < 104 → SaysSame p s n t m x y (Second (early Room)) x y
+    pub no_room_for_other : length y < 104 → SaysSame p s n t m x y (Err (Second (early Room))) x y
     no_room_for_other h =
         let f = le-leb 104 (length x) rx in
         let g = lt-leb 104 (length y) h in
         record { answers = rw (f, g); first = rw (f, g); second = rw (f, g) }
 
     module _ (ry : 104 ≤ length y) where
-      pub first_refused : {r : Refusal} → checked p s n ≡ refused r → SaysSame p s n t m x y (First r) x y
+      pub first_refused : {r : Refusal} → checked p s n ≡ refused r → SaysSame p s n t m x y (Err (First r)) x y
       first_refused e =
           let f = le-leb 104 (length x) rx in
           let g = le-leb 104 (length y) ry in
           record { answers = rw (f, g, e); first = rw (f, g, e); second = rw (f, g, e) }
 
       pub second_refused : {es : List Entry} {r : Refusal} → checked p s n ≡ accepted es → checked p t m ≡ refused r
-          → SaysSame p s n t m x y (Second r) x y
+          → SaysSame p s n t m x y (Err (Second r)) x y
       second_refused c e =
           let f = le-leb 104 (length x) rx in
           let g = le-leb 104 (length y) ry in
@@ -78,14 +102,14 @@ module _ (p : Terms) (s : List ℕ) (n : ℕ) (t : List ℕ) (m : ℕ) (x y : Li
   others = bits (form p t m y f)
 
   module _ (x_after y_after : List ℕ) {a b : Answer} (h : Normalise p s n x a x_after) (i : Normalise p t m y b y_after) where
-    compares : (c : Bool) → same ones others ≡ c → SaysSame p s n t m x y (cond c Same Other) x_after y_after
+    compares : (c : Bool) → same ones others ≡ c → SaysSame p s n t m x y (Ok c) x_after y_after
     compares c q = record {
       answers = rw (pair_is, q);
       first = rw pair_is (holds p s n x g x_after h);
       second = rw pair_is (holds p t m y f y_after i);
     }
 
-    pub other_size : n ≢ m → SaysSame p s n t m x y Other x_after y_after
+    pub other_size : n ≢ m → SaysSame p s n t m x y (Ok false) x_after y_after
     other_size u = compares false (same_false ones others (λ q. u (sym (bits_long p s n x g) ∙ ap length q ∙ bits_long p t m y f)))
 
     module _ (z : n ≡ m) {l : ℕ} (c : l ≡ bytes_for n) where
@@ -95,11 +119,16 @@ module _ (p : Terms) (s : List ℕ) (n : ℕ) (t : List ℕ) (m : ℕ) (x y : Li
       other_front : take l y_after ≡ bytes_of others
       other_front = front p t m y f y_after i l (c ∙ ap bytes_for z)
 
-      pub found_same : take l x_after ≡ take l y_after → SaysSame p s n t m x y Same x_after y_after
+      found_same : take l x_after ≡ take l y_after → SaysSame p s n t m x y (Ok true) x_after y_after
       found_same q =
           let u : ones ≡ others =
           ap bits (one_telegram p _ _ (form_telegram p s n x g) (form_telegram p t m y f) (sym one_front ∙ q ∙ other_front)) in
           compares true (ap (same ones) (sym u) ∙ same_self ones)
 
-      pub found_other : take l x_after ≢ take l y_after → SaysSame p s n t m x y Other x_after y_after
+      found_other : take l x_after ≢ take l y_after → SaysSame p s n t m x y (Ok false) x_after y_after
       found_other q = compares false (same_false ones others (λ u. q (one_front ∙ ap bytes_of u ∙ sym other_front)))
+
+      -- the answer of `==` on the two
+      pub found : (same : Bool) → Decides same (take l x_after ≡ take l y_after) → SaysSame p s n t m x y (Ok same) x_after y_after
+      found true d = found_same (d.0 refl)
+      found false d = found_other (λ q. unlike (d.1 q) refl)

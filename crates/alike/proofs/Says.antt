@@ -1,11 +1,11 @@
 -- What a refusal of `says_same` keeps, and demand 3 of its answer, by its promise alone. For any terms. Assumes nothing.
-use mathlib.Core.Bool.{Bool, true, false, cond}
+use Rattle.std.specs.Prelude.{Ok, true, false, Result, Bool}
+use mathlib.Core.Bool.{Bool, true, false}
 use mathlib.Core.List.{List}
 use mathlib.Core.Logic.{◌↔◌, ◌≢◌}
 use mathlib.Core.Path.{◌≡◌, refl, sym, ap, ◌∙◌}
 use Prim.Native.Nat.{ℕ}
 use lib.ListN.{length}
-use native.Mathlib.Omega.{arith}
 use Rattle.bits.specs.Bits.{same}
 use Rattle.format.specs.Normal.{says, normal}
 use Rattle.format.specs.Rules.{Terms}
@@ -15,16 +15,15 @@ use Rattle.normals.specs.Normals.{Ready}
 use Rattle.normals.proofs.Forms.{form, original}
 use Rattle.alike.specs.Pairs.{Pair, pair_into, alike, in_numbers, first_over, second_over, SaysSame}
 use Rattle.alike.specs.Pairs.Pair.{both, first, second}
-use Rattle.alike.specs.declared.Alike.{Alike}
-use Rattle.alike.specs.declared.Alike.TheVariants.{Same, Other}
 use Rattle.alike.proofs.Numbers.{which, alike_is}
 use Rattle.bits.proofs.Same.{same_true, same_self}
 use Rattle.alike.proofs.Pairs.{pair_is}
+use Rattle.alike.specs.declared.PairError.{PairError}
 
 -- "A refusal .. changes no output": where a telegram is refused, whichever it is, both buffers are as they were
-module _ {p : Terms} {s : List ℕ} {n : ℕ} {t : List ℕ} {m : ℕ} {x y x_after y_after : List ℕ} {answer : Alike}
+module _ {p : Terms} {s : List ℕ} {n : ℕ} {t : List ℕ} {m : ℕ} {x y x_after y_after : List ℕ} {answer : Result Bool PairError}
     (h : SaysSame p s n t m x y answer x_after y_after) (refused : (in_numbers answer).0 ≢ 0) where
-  none_refused : (same : Bool) → (in_numbers (cond same Same Other)).0 ≡ 0
+  none_refused : (same : Bool) → (in_numbers (Ok same)).0 ≡ 0
   none_refused true = refl
   none_refused false = refl
 
@@ -36,20 +35,15 @@ module _ {p : Terms} {s : List ℕ} {n : ℕ} {t : List ℕ} {m : ℕ} {x y x_af
   pub says_same_keeps : (x_after ≡ x) × (y_after ≡ y)
   says_same_keeps = kept (pair_into p s n t m (length x) (length y)) h.answers h.first h.second
 
-by_same : (t : Bool) → (cond t Same Other ≡ Same) ↔ (t ≡ true)
-by_same true = (λ h. refl, λ h. refl)
-by_same false = (λ h. let z : ◌≡◌ {A = ℕ} 0 1 = cc in absurd (omega arith), λ h. let z : ◌≡◌ {A = ℕ} 0 1 = cc in absurd (omega arith))
-
 module _ (p : Terms) where
   -- "They say the same .. exactly when their normal forms have the same bits": the answer is Same just where they do
-  pub same_just_where : (s : List ℕ) (n : ℕ) (t : List ℕ) (m : ℕ) (x y : List ℕ) (g : Ready p s n x) (f : Ready p t m y) (answer : Alike)
-      (x_after y_after : List ℕ) → SaysSame p s n t m x y answer x_after y_after → (answer ≡ Same) ↔ (says g.entries ≡ says f.entries)
+  pub same_just_where : (s : List ℕ) (n : ℕ) (t : List ℕ) (m : ℕ) (x y : List ℕ) (g : Ready p s n x) (f : Ready p t m y) (answer : Result Bool PairError)
+      (x_after y_after : List ℕ) → SaysSame p s n t m x y answer x_after y_after → (answer ≡ (Ok true)) ↔ (says g.entries ≡ says f.entries)
   same_just_where s n t m x y g f answer x_after y_after h =
       let ones = bits (form p s n x g) in
       let others = bits (form p t m y f) in
-      let e : answer ≡ cond (same ones others) Same Other = alike_is answer _ h.answers ∙ ap alike (pair_is p s n t m x y g f) in
-      let d = by_same (same ones others) in
+      let e : answer ≡ Ok (same ones others) = alike_is answer _ h.answers ∙ ap alike (pair_is p s n t m x y g f) in
       let q = same_says p (original p s n x g).telegram (original p t m y f).telegram in (
-        λ u. q.1 (same_true ones others (d.0 (sym e ∙ u))),
-        λ u. e ∙ d.1 (ap (same ones) (sym (q.0 u)) ∙ same_self ones),
+        λ u. q.1 (same_true ones others (let z : ◌≡◌ {A = Result Bool PairError} (Ok (same ones others)) (Ok true) = sym e ∙ u in cc)),
+        λ u. e ∙ ap Ok (ap (same ones) (sym (q.0 u)) ∙ same_self ones),
       )

@@ -4,10 +4,9 @@ use mathlib.Core.Path.{◌≡◌}
 use Prim.Native.Nat.{ℕ}
 use lib.ListN.{length}
 use Rattle.format.specs.Judges.{Judges}
-use Rattle.format.specs.Refusals.{in_numbers}
+use Rattle.format.specs.Refusals.{in_numbers, Answer}
 use Rattle.format.specs.Rules.{paper}
 use Rattle.format.specs.Telegrams.{Entry, values, bit_count}
-use Rattle.format.specs.declared.Answer.{Answer}
 use Rattle.states.specs.Labels.{Label, label_into}
 use Rattle.states.specs.Normaliser.{Normalise, normalise_into}
 use Rattle.states.specs.Reader.{Read, checked, read_into, answer_of}

@@ -1,4 +1,5 @@
 -- A single telegram's refusal in a group, from the promise of `message` alone. Assumes nothing.
+use Rattle.std.specs.Prelude.{Err}
 use mathlib.Core.List.{List, [], ◌∷◌}
 use mathlib.Core.Logic.{◌↔◌}
 use mathlib.Core.Path.{◌≡◌, refl, sym, ap, ◌∙◌, subst}
@@ -12,12 +13,11 @@ use Rattle.group.specs.Groups.{Part, parts, fault, Message, group_in, reply_of, 
 use Rattle.group.specs.Groups.Message.{lists, refuses}
 use Rattle.group.specs.declared.Cause.TheVariants.{Single}
 use Rattle.group.specs.declared.Fault.{Fault}
-use Rattle.group.specs.declared.Reply.{Reply}
-use Rattle.group.specs.declared.Reply.TheVariants.{Refused}
 use Rattle.group_laws.proofs.Refusing.{refuses_single}
 use Rattle.group_laws.proofs.Singles.{AllAccepted, FirstRefused}
 use Rattle.entrances.specs.Groups.{AllFine, SingleGiven}
 use Rattle.entrances.proofs.Bytes.{check_judged}
+use Rattle.group.specs.Replies.{Reply}
 
 all_fine : (xs : List Part) → AllAccepted paper xs ↔ AllFine xs
 all_fine [] = (λ a. tt, λ a. tt)
@@ -52,13 +52,13 @@ first_given xs which r = (
       },
 )
 
-replied : (m : Message) (f : Fault) → (reply_of m ≡ Refused f) ↔ (m ≡ refuses f)
+replied : (m : Message) (f : Fault) → (reply_of m ≡ Err f) ↔ (m ≡ refuses f)
 replied (lists ms) f = (λ e. cc, λ e. cc)
 replied (refuses g) f = (λ e. cc, λ e. cc)
 
 -- a group is refused for a telegram by itself just where that is the first that is refused, and with its own number and place
 pub message_single : {s ns pigs numbers pigs' numbers' : List ℕ} {answer : Reply} → Replied paper s ns pigs numbers answer pigs' numbers'
-    → (which : ℕ) (r : Refusal) → (answer ≡ Refused (fault (Single r.kind) which r.place))
+    → (which : ℕ) (r : Refusal) → (answer ≡ Err (fault (Single r.kind) which r.place))
     ↔ ((264 ≤ min (length pigs) (length numbers)) × SingleGiven (parts s ns) which r)
 message_single {s} {ns} {pigs} {numbers} {pigs'} {numbers'} {answer} h which r =
     let room = min (length pigs) (length numbers) in

@@ -16,7 +16,6 @@ use Rattle.states.specs.Labels.{numbers}
 use Rattle.sheet.specs.Sheets.{other_name, named, judged}
 use Rattle.sheet.specs.Sheets.Imported.{taken, refused_at}
 use Rattle.sheet.specs.Steps.{columns_into, Judged}
-use Rattle.sheet.specs.declared.Reply.{Reply}
 use Rattle.sheet.proofs.Numbers.{judge_answer}
 use Rattle.given.specs.Broken.Medium.{in_values}
 use Rattle.given.specs.Given.{Accepted}
@@ -24,6 +23,7 @@ use Rattle.given.proofs.Accepted.{write_judged}
 use Rattle.entrances.specs.Entrances.{WriteGiven}
 use Rattle.entrances.specs.Rows.{OtherNumber, JudgeRow, Agreed, JudgedSize, Replies}
 use Rattle.entrances.proofs.Replying.{judged_refused, judging_replies}
+use Rattle.sheet.specs.Replies.{Reply}
 
 -- ---- the first row with another number
 

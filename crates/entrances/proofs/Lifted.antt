@@ -1,5 +1,6 @@
 -- What is judged rightly is so behind a test of room, as a normal form, as the answer of a function and as the number that C gets: each law once, for every
 -- entry point. Assumes nothing.
+use Rattle.std.specs.Prelude.{Ok, Err}
 use mathlib.Core.Bool.{Bool, true, false, cond}
 use mathlib.Core.List.{List}
 use mathlib.Core.Logic.{◌↔◌}
@@ -9,13 +10,11 @@ use native.Mathlib.Omega.{arith}
 use borrow.Author.Tests.{leb-true, leb-false, le-leb, lt-leb}
 use lib.Dec.{leb}
 use Rattle.format.specs.Judges.{Judges}
-use Rattle.format.specs.Refusals.{number_of, in_numbers, code_of}
+use Rattle.format.specs.Refusals.{number_of, in_numbers, code_of, Answer}
 use Rattle.format.specs.Telegrams.{Entry, Result}
 use Rattle.format.specs.Telegrams.Result.{accepted, refused}
-use Rattle.format.specs.declared.Answer.{Answer}
 use Rattle.format.specs.declared.Kind.TheVariants.{Room}
 use Rattle.format.specs.declared.Refusal.{Refusal}
-use Rattle.format.specs.declared.Answer.TheVariants as answers
 use Rattle.format.proofs.Numbers.{number_in, refusal_is, answer_is}
 use Rattle.states.specs.Normaliser.{normal_of}
 use Rattle.states.specs.Reader.{early, roomed, answered}
@@ -64,11 +63,11 @@ module _ {Right : List Entry → Type 0} {Wrong : Refusal → Type 0} {a : Resul
   -- ---- the answer of a function
 
   module _ (count : List Entry → ℕ) where
-    counted : (b : Result) → a ≡ b → (n : ℕ) → answered count b ≡ answers.Accepted n → (es : List Entry) × Right es × (n ≡ count es)
+    counted : (b : Result) → a ≡ b → (n : ℕ) → answered count b ≡ Ok n → (es : List Entry) × Right es × (n ≡ count es)
     counted (accepted es) e n h = (es, (j.accepts es).0 e, cc)
     counted (refused r) e n h = let z : ◌≡◌ {A = ℕ} 0 1 = cc in absurd (omega arith)
 
-    told : (b : Result) (r : Refusal) → (answered count b ≡ answers.Refused r) ↔ (b ≡ refused r)
+    told : (b : Result) (r : Refusal) → (answered count b ≡ Err r) ↔ (b ≡ refused r)
     told (accepted es) r = (λ e. cc, λ e. cc)
     told (refused q) r = (λ e. cc, λ e. cc)
 

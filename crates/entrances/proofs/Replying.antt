@@ -1,4 +1,5 @@
 -- What export and import reply, from their promises alone: done, one of 1 to 13, or 20 at a row. Assumes nothing.
+use Rattle.std.specs.Prelude.{Ok, Err}
 use mathlib.Core.Bool.{Bool, true, false, cond}
 use mathlib.Core.List.{List}
 use mathlib.Core.Logic.{◌↔◌}
@@ -22,8 +23,6 @@ use Rattle.sheet.specs.Reading.Rows.{rows, bad}
 use Rattle.sheet.specs.Reading as reading
 use Rattle.sheet.specs.Sheets.{Imported, exported, length_of, Export, other_name, named, judged, on_sheet, imported, import_into, size_of, Import}
 use Rattle.sheet.specs.Sheets.Imported.{taken, refused_by, refused_at}
-use Rattle.sheet.specs.declared.Reply.{Reply}
-use Rattle.sheet.specs.declared.Reply.TheVariants.{Done, Refused, Row}
 use Rattle.sheet.proofs.Back.{sheet_back, only_sheets}
 use Rattle.sheet.proofs.Numbers.{export_answer, import_answer}
 use Rattle.given.proofs.Accepted.{kept_is, write_judged}
@@ -34,6 +33,8 @@ use Rattle.entrances.proofs.Lifted.{room_judged}
 use Rattle.entrances.proofs.Bytes.{check_judged}
 use Rattle.entrances.proofs.Sheets.{sheet_rows}
 use Rattle.entrances.proofs.Rows.{imported_row}
+use Rattle.sheet.specs.declared.SheetError.TheVariants.{Refused, Row}
+use Rattle.sheet.specs.Replies.{Reply}
 
 -- ---- export
 
@@ -42,15 +43,15 @@ unfolding exported
 export_judged s n room = room_judged (check_judged s n) 65536 room
 
 module _ (s : List ℕ) (n room : ℕ) where
-  sized : (b : Result) → exported paper s n room ≡ b → (size : ℕ) → length_of b ≡ Done size → ExportedLength s n room size
+  sized : (b : Result) → exported paper s n room ≡ b → (size : ℕ) → length_of b ≡ Ok size → ExportedLength s n room size
   sized (accepted es) e size h = (es, ((export_judged s n room).accepts es).0 e, cc)
   sized (refused r) e size h = let z : ◌≡◌ {A = ℕ} 0 1 = cc in absurd (omega arith)
 
-told : (b : Result) (r : Refusal) → (length_of b ≡ Refused r) ↔ (b ≡ refused r)
+told : (b : Result) (r : Refusal) → (length_of b ≡ Err (Refused r)) ↔ (b ≡ refused r)
 told (accepted es) r = (λ e. cc, λ e. cc)
 told (refused q) r = (λ e. cc, λ e. cc)
 
-no_row : (b : Result) (k : ℕ) → length_of b ≡ Row k → ⊥
+no_row : (b : Result) (k : ℕ) → length_of b ≡ Err (Row k) → ⊥
 no_row (accepted es) k e = let z : ◌≡◌ {A = ℕ} 0 1 = cc in omega arith
 no_row (refused r) k e = let z : ◌≡◌ {A = ℕ} 0 1 = cc in omega arith
 
@@ -75,12 +76,12 @@ pub record Judging (Right : List Entry → Type 0) (Wrong : Refusal → Type 0) 
   pub rows : (k : ℕ) → (a ≡ refused_at k) ↔ Bad k
 
 -- what is replied of each
-refused_is : (b : Imported) (r : Refusal) → (size_of b ≡ Refused r) ↔ (b ≡ refused_by r)
+refused_is : (b : Imported) (r : Refusal) → (size_of b ≡ Err (Refused r)) ↔ (b ≡ refused_by r)
 refused_is (taken es) r = (λ e. cc, λ e. cc)
 refused_is (refused_by q) r = (λ e. cc, λ e. cc)
 refused_is (refused_at k) r = (λ e. cc, λ e. cc)
 
-row_is : (b : Imported) (k : ℕ) → (size_of b ≡ Row k) ↔ (b ≡ refused_at k)
+row_is : (b : Imported) (k : ℕ) → (size_of b ≡ Err (Row k)) ↔ (b ≡ refused_at k)
 row_is (taken es) k = (λ e. cc, λ e. cc)
 row_is (refused_by q) k = (λ e. cc, λ e. cc)
 row_is (refused_at j) k = (λ e. cc, λ e. cc)
@@ -105,7 +106,7 @@ module _ {Right : List Entry → Type 0} {Wrong : Refusal → Type 0} {Bad : ℕ
   taken_by true e es h = record { enough = leb-true 104 room e; accepted = (j.takes es).0 h }
   taken_by false e es h = let z : ◌≡◌ {A = ℕ} 0 1 = cc in absurd (omega arith)
 
-  done_by : (b : Imported) → By (leb 104 room) ≡ b → (n : ℕ) → size_of b ≡ Done n → (es : List Entry) × RoomAccepted 104 room Right es × (n ≡ bit_count es)
+  done_by : (b : Imported) → By (leb 104 room) ≡ b → (n : ℕ) → size_of b ≡ Ok n → (es : List Entry) × RoomAccepted 104 room Right es × (n ≡ bit_count es)
   done_by (taken es) e n h = (es, taken_by (leb 104 room) refl es e, cc)
   done_by (refused_by r) e n h = let z : ◌≡◌ {A = ℕ} 0 1 = cc in absurd (omega arith)
   done_by (refused_at k) e n h = let z : ◌≡◌ {A = ℕ} 0 1 = cc in absurd (omega arith)

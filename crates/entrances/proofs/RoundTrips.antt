@@ -1,4 +1,5 @@
 -- What the round trips and the comparison of two telegrams answer, and what C gets, from each promise alone. Assumes nothing.
+use Rattle.std.specs.Prelude.{Ok, true, false, Err, Bool}
 use mathlib.Core.Bool.{Bool, true, false, cond}
 use mathlib.Core.List.{List}
 use mathlib.Core.Logic.{◌↔◌, ◌⊎◌, inl, inr}
@@ -13,7 +14,6 @@ use Rattle.format.specs.Normal.{normal}
 use Rattle.format.specs.Rules.{paper}
 use Rattle.format.specs.Telegrams.{Entry, Result, bits, values, bit_count}
 use Rattle.format.specs.Telegrams.Result.{accepted, refused}
-use Rattle.format.specs.declared.Answer.{Answer}
 use Rattle.format.specs.declared.Kind.TheVariants.{Room}
 use Rattle.format.specs.declared.Refusal.{Refusal}
 use Rattle.states.specs.Reader.{early, checked}
@@ -21,8 +21,6 @@ use Rattle.again.specs.Again.{Rewritten, Reread}
 use Rattle.normals.specs.Normals.{Renormalised}
 use Rattle.alike.specs.Pairs.{Pair, pair_of, pair_into, alike, SaysSame}
 use Rattle.alike.specs.Pairs.Pair.{both, first, second}
-use Rattle.alike.specs.declared.Alike.{Alike}
-use Rattle.alike.specs.declared.Alike.TheVariants.{Same, Other, First, Second}
 use Rattle.alike.proofs.Numbers.{alike_is}
 use Rattle.sinkerpost.specs.Codes.{check_code}
 use Rattle.sinkerpost.specs.Codes as codes
@@ -31,6 +29,10 @@ use Rattle.entrances.specs.Entrances.{FirstGiven as firsts, SecondGiven as secon
 use Rattle.entrances.proofs.Lifted.{room_judged, answers_just, code_just}
 use Rattle.entrances.proofs.Bytes.{check_judged, bytes_placed, room_placed}
 use Rattle.entrances.proofs.Calls.{read_in_judged, normalise_judged, write_in_judged}
+use Rattle.format.specs.Refusals.{Answer}
+use Rattle.alike.specs.declared.PairError.TheVariants.{First, Second}
+use Rattle.alike.specs.declared.PairError.{PairError}
+use Rattle.std.specs.Prelude as code
 
 -- ---- `again` and `normals`: 1 for either of what is lent, and then what the first step gives
 
@@ -121,27 +123,19 @@ module _ (s : List ℕ) (n : ℕ) (t : List ℕ) (m x y : ℕ) where
       rw (le-leb 104 x i, le-leb 104 y j, ((check_judged s n).accepts es).1 a, ((check_judged t m).refuses r).1 g)
 
 -- which telegram an answer refuses
-refuses_first : (p : Pair) (r : Refusal) → (alike p ≡ First r) ↔ (p ≡ first r)
+refuses_first : (p : Pair) (r : Refusal) → (alike p ≡ Err (First r)) ↔ (p ≡ first r)
 refuses_first (first q) r = (λ e. cc, λ e. cc)
 refuses_first (second q) r = (λ e. cc, λ e. cc)
-refuses_first (both es fs) r = (by (same (bits (normal es)) (bits (normal fs))), λ e. cc)
-  where
-    by : (c : Bool) → cond c Same Other ≡ First r → both es fs ≡ first r
-    by true e = cc
-    by false e = cc
+refuses_first (both es fs) r = (λ e. cc, λ e. cc)
 
-refuses_second : (p : Pair) (r : Refusal) → (alike p ≡ Second r) ↔ (p ≡ second r)
+refuses_second : (p : Pair) (r : Refusal) → (alike p ≡ Err (Second r)) ↔ (p ≡ second r)
 refuses_second (first q) r = (λ e. cc, λ e. cc)
 refuses_second (second q) r = (λ e. cc, λ e. cc)
-refuses_second (both es fs) r = (by (same (bits (normal es)) (bits (normal fs))), λ e. cc)
-  where
-    by : (c : Bool) → cond c Same Other ≡ Second r → both es fs ≡ second r
-    by true e = cc
-    by false e = cc
+refuses_second (both es fs) r = (λ e. cc, λ e. cc)
 
 -- an answer that refuses neither: the two say the same, or they do not
-abbrev Compares : Alike → Type 0
-Compares a = (a ≡ Same) ⊎ (a ≡ Other)
+abbrev Compares : code.Result Bool PairError → Type 0
+Compares a = (a ≡ Ok true) ⊎ (a ≡ Ok false)
 
 compares_both : (p : Pair) → Compares (alike p) → (es : List Entry) × (fs : List Entry) × (p ≡ both es fs)
 compares_both (both es fs) c = (es, fs, refl)
@@ -153,15 +147,15 @@ compares_both (second r) (inr e) = let z : ◌≡◌ {A = ℕ} 0 1 = cc in absur
 both_compares : (es fs : List Entry) → Compares (alike (both es fs))
 both_compares es fs = by (same (bits (normal es)) (bits (normal fs)))
   where
-    by : (c : Bool) → Compares (cond c Same Other)
+    by : (c : Bool) → Compares (Ok c)
     by true = inl refl
     by false = inr refl
 
-module _ {s : List ℕ} {n : ℕ} {t : List ℕ} {m : ℕ} {x y x' y' : List ℕ} {a : Alike} (h : SaysSame paper s n t m x y a x' y') where
+module _ {s : List ℕ} {n : ℕ} {t : List ℕ} {m : ℕ} {x y x' y' : List ℕ} {a : code.Result Bool PairError} (h : SaysSame paper s n t m x y a x' y') where
   is : a ≡ alike (pair_into paper s n t m (length x) (length y))
   is = alike_is a (alike (pair_into paper s n t m (length x) (length y))) h.answers
 
-  pub says_same_first : (r : Refusal) → (a ≡ First r) ↔ FirstGiven s n (length x) (length y) r
+  pub says_same_first : (r : Refusal) → (a ≡ Err (First r)) ↔ FirstGiven s n (length x) (length y) r
   says_same_first r =
       let p = pair_into paper s n t m (length x) (length y) in
       let q = refuses_first p r in (
@@ -169,7 +163,7 @@ module _ {s : List ℕ} {n : ℕ} {t : List ℕ} {m : ℕ} {x y x' y' : List ℕ
         λ g. is ∙ q.1 (by_first s n t m (length x) (length y) g),
       )
 
-  pub says_same_second : (r : Refusal) → (a ≡ Second r) ↔ SecondGiven s n t m (length x) (length y) r
+  pub says_same_second : (r : Refusal) → (a ≡ Err (Second r)) ↔ SecondGiven s n t m (length x) (length y) r
   says_same_second r =
       let p = pair_into paper s n t m (length x) (length y) in
       let q = refuses_second p r in (

@@ -1,5 +1,6 @@
 -- Worked claims: rows that are refused by 20, bytes that are accepted and such that are refused by 2, 3, 5 and 11, each by what the checker computes of
 -- them. Assumes nothing.
+use Rattle.std.specs.Prelude.{Err}
 use mathlib.Core.Path.{◌≡◌, refl}
 use mathlib.Core.List.{List, [], ◌∷◌, ◌++◌}
 use Prim.Native.Nat.{ℕ}
@@ -18,11 +19,11 @@ use Rattle.states.specs.Reader.{checked}
 use Rattle.sheet.specs.Rows.{text_of, crlf, heading, label_text}
 use Rattle.sheet.specs.Reading.{row_in, rows_in, sheet_in}
 use Rattle.sheet.specs.Sheets.{number_of, imported}
-use Rattle.sheet.specs.declared.Reply.TheVariants.{Row}
 use Rattle.entrances.specs.Entrances.{BytesGiven, BytesAccepted}
 use Rattle.entrances.specs.Rows.{RowGiven}
 use Rattle.entrances.proofs.Bytes.{check_judged}
 use Rattle.entrances.proofs.Rows.{imported_row}
+use Rattle.sheet.specs.declared.SheetError.TheVariants.{Refused, Row}
 
 abbrev line : List ℕ → List ℕ → List ℕ
 line text rest = text ++ crlf ++ rest
@@ -49,7 +50,7 @@ unfolding imported sheet_in heading begins rows_in row_in fields label_text deci
 another_name = (imported_row (sheet_with (text_of "Q_LINK,1,1") (text_of "END,8,255")) 1).0 refl
 
 -- the number of a row
-twenty : number_of (Row 7) ≡ 20
+twenty : number_of (Err (Row 7)) ≡ 20
 twenty = refl
 
 -- ---- bytes and n: the header of case 1, and two bytes more

@@ -1,17 +1,15 @@
 -- docs/RULES.md, "Refusal numbers": which refusal each entry point gives, and what it accepts, for every number. "Order: 1, then (reader and normaliser)
 -- 2, 3, then field by field, the first broken rule wins". Definitions alone. (That a refusal leaves what is lent as it was is `read_Keeps`,
 -- `write_keeps` and so on, `states`, proofs/Leaving.)
-use Rattle.std.specs.Prelude.{List, ◌↔◌, ◌≡◌, ℕ, ◌+◌, ◌*◌, ◌<◌, ◌≤◌, length, take, drop}
+use Rattle.std.specs.Prelude.{List, ◌↔◌, ◌≡◌, ℕ, ◌+◌, ◌*◌, ◌<◌, ◌≤◌, length, take, drop, Ok, Err}
 use Rattle.bits.specs.Bits.{bits_of, bytes_for, Below}
 use Rattle.format.specs.Normal.{normal}
-use Rattle.format.specs.Refusals.{number_of}
+use Rattle.format.specs.Refusals.{number_of, Answer}
 use Rattle.format.specs.Telegrams.{Entry}
-use Rattle.format.specs.declared.Answer.{Answer}
 use Rattle.format.specs.declared.Kind.TheVariants.{Room, Size, Padding}
 use Rattle.format.specs.declared.Refusal.{Refusal}
 use Rattle.given.specs.Broken.Medium.{in_bits, in_values}
 use Rattle.given.specs.Given.{Given, Accepted}
-use Rattle.format.specs.declared.Answer.TheVariants as answers
 
 -- ---- bytes and n
 
@@ -84,8 +82,8 @@ NormaliseAccepted s n room es = RoomAccepted 104 room (NormalOf (BytesAccepted s
 
 -- an answer: it is this refusal just where that is given, and a number just where that is the count of something accepted
 pub record Answers (Right : List Entry → Type 0) (Wrong : Refusal → Type 0) (count : List Entry → ℕ) (answer : Answer) : Type 0 where
-  pub accepts : (n : ℕ) → (answer ≡ answers.Accepted n) ↔ ((es : List Entry) × Right es × (n ≡ count es))
-  pub refuses : (r : Refusal) → (answer ≡ answers.Refused r) ↔ Wrong r
+  pub accepts : (n : ℕ) → (answer ≡ Ok n) ↔ ((es : List Entry) × Right es × (n ≡ count es))
+  pub refuses : (r : Refusal) → (answer ≡ Err r) ↔ Wrong r
 
 -- "there the answer is 0, or 1,024 times the refusal number plus the place". A place is at most 830, so that the code tells number and place apart
 pub record Coded (Right : List Entry → Type 0) (Wrong : Refusal → Type 0) (code : ℕ) : Type 0 where

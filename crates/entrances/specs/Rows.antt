@@ -3,17 +3,17 @@
 -- column; then 20 at the first row whose name isn't the one due there." It is told by the rows that export writes, and by no way of reading
 -- them. Definitions alone.
 use mathlib.Core.List.{List, [], ◌∷◌, ◌++◌, Memᴰ}
-use Rattle.std.specs.Prelude.{◌⊎◌, ◌↔◌, ◌≡◌, ℕ, suc, ◌/◌, ◌%◌, ◌^◌, ◌≤◌, ◌<◌, length}
+use Rattle.std.specs.Prelude.{◌⊎◌, ◌↔◌, ◌≡◌, ℕ, suc, ◌/◌, ◌%◌, ◌^◌, ◌≤◌, ◌<◌, length, Ok, Err}
 use Rattle.format.specs.Fields.{fields, NID_RADIO}
 use Rattle.format.specs.Telegrams.{Entry, names, values, bit_count}
 use Rattle.format.specs.declared.Refusal.{Refusal}
 use Rattle.states.specs.Labels.{numbers}
 use Rattle.sheet.specs.Rows.{heading, row_text, sheet_text}
-use Rattle.sheet.specs.declared.Reply.{Reply}
-use Rattle.sheet.specs.declared.Reply.TheVariants as replies
 use Rattle.given.specs.Broken.Medium.{in_values}
 use Rattle.given.specs.Given.{Given, Kept, Accepted}
 use Rattle.entrances.specs.Entrances.{BytesGiven, BytesAccepted, RoomGiven, RoomAccepted}
+use Rattle.sheet.specs.declared.SheetError.TheVariants as failure
+use Rattle.sheet.specs.Replies.{Reply}
 
 -- ---- rows
 
@@ -138,6 +138,6 @@ JudgedSize ks vs room n = (es : List Entry) × RoomAccepted 104 room (Agreed ks 
 
 -- a reply: it is done with something of this size, refused by this refusal, or by 20 at this row, just where it says so
 pub record Replies (Size : ℕ → Type 0) (Wrong : Refusal → Type 0) (Bad : ℕ → Type 0) (reply : Reply) : Type 0 where
-  pub done : (n : ℕ) → (reply ≡ replies.Done n) ↔ Size n
-  pub refuses : (r : Refusal) → (reply ≡ replies.Refused r) ↔ Wrong r
-  pub rows : (k : ℕ) → (reply ≡ replies.Row k) ↔ Bad k
+  pub done : (n : ℕ) → (reply ≡ Ok n) ↔ Size n
+  pub refuses : (r : Refusal) → (reply ≡ Err (failure.Refused r)) ↔ Wrong r
+  pub rows : (k : ℕ) → (reply ≡ Err (failure.Row k)) ↔ Bad k

@@ -9,7 +9,7 @@ use lib.Dec.{eqb}
 use lib.ListN.{length, get_or}
 use Rattle.line_text.specs.Lines.{line_length}
 
-pub line_none : (input : List ℕ) → length input ≡ 0 → 0 ≡ line_length input
+pub line_none : (input : List ℕ) → length input ≡ 0 → length input ≡ line_length input
 unfolding line_length
 line_none [] e = refl
 line_none (c ∷ cs) e = absurd (omega arith)

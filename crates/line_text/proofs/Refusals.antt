@@ -11,8 +11,8 @@ use Rattle.pieces.proofs.Decimals.{length_decimal}
 use Rattle.pieces.proofs.Starts.{grown_none, grows}
 use Rattle.sheet.specs.Rows.{text_of}
 use Rattle.sheet.specs.Sheets.{number_of, value_of}
-use Rattle.sheet.specs.declared.Reply.{Reply}
 use Rattle.line_text.specs.Lines.{newline, refusal, refusal_into}
+use Rattle.sheet.specs.Replies.{Reply}
 
 pub refusal_roomless : (reply : Reply) (before : List ℕ) → length before < 64 → Grown before (refusal_into reply (length before)) 0 before
 unfolding refusal_into

@@ -1,16 +1,16 @@
 -- Worked examples of the definitions, each computed by the checker. Assumes nothing.
-use Rattle.std.specs.Prelude.{◌≡◌, refl, [], ◌∷◌, ◌++◌}
+use Rattle.std.specs.Prelude.{◌≡◌, refl, [], ◌∷◌, ◌++◌, Err}
 use Rattle.bits.specs.Bits.{digits, bits_of}
 use Rattle.format.specs.declared.Kind.TheVariants.{Trailing}
 use Rattle.pieces.specs.Numbers.{digits_of}
 use Rattle.sheet.specs.Rows.{text_of}
-use Rattle.sheet.specs.declared.Reply.TheVariants.{Refused, Row}
 use Rattle.line_text.specs.Lines.{newline, line_length, refusal, refusal_into}
 use Rattle.packing.specs.Packing.{characters}
 use Rattle.line_text.specs.Characters.{characters_into}
+use Rattle.sheet.specs.declared.SheetError.TheVariants.{Refused, Row}
 
 -- rule 11 at bit 58, and row 17 of a sheet
-refusals : refusal (Refused (record { kind = Trailing; place = 58 })) ∷ refusal (Row 17) ∷ []
+refusals : refusal (Err (Refused (record { kind = Trailing; place = 58 }))) ∷ refusal (Err (Row 17)) ∷ []
     ≡ (text_of "refused 11 58" ++ newline) ∷ (text_of "refused 20 17" ++ newline) ∷ []
 unfolding refusal digits_of
 refusals = refl
@@ -22,7 +22,7 @@ unfolding line_length
 lines = refl
 
 -- room for 63 characters, and for 64
-roomless : refusal_into (Row 17) 63 ∷ refusal_into (Row 17) 64 ∷ [] ≡ [] ∷ refusal (Row 17) ∷ []
+roomless : refusal_into (Err (Row 17)) 63 ∷ refusal_into (Err (Row 17)) 64 ∷ [] ≡ [] ∷ refusal (Err (Row 17)) ∷ []
 unfolding refusal_into
 roomless = refl
 

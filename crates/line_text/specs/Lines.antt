@@ -3,7 +3,7 @@ use Rattle.std.specs.Prelude.{cond, List, [], ◌∷◌, ◌++◌, ℕ, ◌-◌,
 use Rattle.pieces.specs.Numbers.{decimal}
 use Rattle.sheet.specs.Rows.{text_of}
 use Rattle.sheet.specs.Sheets.{in_numbers}
-use Rattle.sheet.specs.declared.Reply.{Reply}
+use Rattle.sheet.specs.Replies.{Reply}
 
 abbrev pub newline : List ℕ
 newline = 10 ∷ []

@@ -10,25 +10,22 @@ mod line;
 
 pub use line::characters;
 use pieces::append;
-use sheet::Reply;
+use sheet::SheetError;
 use spell::append_decimal;
 
 // How many characters the input has before a newline at its end.
 pub fn line_length(input: &[u8]) -> usize
     ensures { result ≡ line_length input.now }
 {
-    let n = input.len();
-    if n == 0 {
-        return 0;
+    match input {
+        [line @ .., b'\n'] => line.len(),
+        line => line.len(),
     }
-    if input[n - 1] == b'\n' {
-        return n - 1;
-    }
-    n
 }
 
-// Puts `refused`, the number and the place or row into out, and gives where the line ends. Under 64 bytes nothing is put, and it ends at 0.
-pub fn refuse(reply: Reply, out: &mut [u8]) -> usize
+// Puts `refused`, the number and the place or row into out, and gives where the line ends. Under 64 bytes nothing is put, and it ends at 0. Not by `write!`,
+// which promises nothing of the text that `refusal_into` is.
+pub fn refuse(reply: Result<usize, SheetError>, out: &mut [u8]) -> usize
     ensures { Grown out.old (refusal_into reply (length out.old)) result out.new }
 {
     if out.len() < 64 {

@@ -23,10 +23,8 @@ fn put_characters(s: &[u8], n: usize, out: &mut [u8]) -> usize
     requires { (n ≤ 8 * length s.now) × (n ≤ length out.old) }
     ensures { Grown out.old (characters (take n (bits_of s.now))) result out.new }
 {
-    let mut i = 0;
-    while i < n {
+    for i in 0..n {
         out[i] = packing::character(s, n, i);
-        i += 1;
     }
     n
 }

@@ -1,10 +1,9 @@
--- Where the names stand in the labels of the rows, and that the numbers of a telegram's fields tell their names. Assumes nothing.
+-- Where a name stands in its row's label, and that the numbers of a telegram's fields tell their names. Assumes nothing.
 use mathlib.Core.Path.{◌≡◌, refl, sym, ap, ap₂, ◌∙◌, subst}
 use mathlib.Core.Bool.{Bool, true, false, cond, ◌&&◌}
 use mathlib.Core.List.{List, [], ◌∷◌, ◌++◌, map, append-nil}
-use Prim.Native.Nat.{ℕ, suc, ◌+◌, ◌-◌, ◌<◌, ◌≤◌}
+use Prim.Native.Nat.{ℕ, ◌+◌, ◌-◌, ◌<◌, ◌≤◌}
 use native.Mathlib.Nat.{add-zero}
-use native.Mathlib.Numerals.{add-one}
 use native.Mathlib.Omega.{arith}
 use borrow.Author.Tests.{ne_eqb}
 use lib.Dec.{T, eqb, leb, leb→le, ltb, ltb→lt}
@@ -14,10 +13,10 @@ use Rattle.format.specs.Rules.{Terms}
 use Rattle.format.specs.Telegrams.{Entry, Telegram}
 use Rattle.format.proofs.Rows.{and_left, and_right}
 use Rattle.laws.proofs.Listed.{AllKnown, telegram_listed, known_number}
+use Rattle.pieces.specs.Numbers.{digits_of}
 use Rattle.pieces.specs.Pieces.{Appended, over, past}
-use Rattle.sheet.specs.Rows.{text_of, labels, starts, field_of}
-use Rattle.sheet.specs.Steps.{Tables}
-use Rattle.sheet.proofs.Table.{own_part, begin, field_law, number_of}
+use Rattle.sheet.specs.Rows.{text_of, label_text, field_of}
+use Rattle.sheet.proofs.Table.{field_law, number_of}
 use Rattle.states.specs.Labels.{numbers, numbers_in}
 use Rattle.names.specs.Names.{name_in, name_text, name_end}
 
@@ -73,56 +72,49 @@ telegram_names p {es} t = names_told es (telegram_listed p t)
 
 -- ---- the labels
 
--- what stands before the width of label n
-abbrev standing : ℕ → List ℕ
-standing n = take (name_end labels (begin (suc n)) - begin n) (drop (begin n) labels)
+-- what stands before the width in a field's label
+abbrev standing : Field → List ℕ
+standing f = take (name_end (label_text f) (length (label_text f))) (label_text f)
 
-parts : map (λ f. standing f.number) fields ≡ map name_of fields
-unfolding labels starts
+parts : map standing fields ≡ map name_of fields
+unfolding label_text fields digits_of
 parts = refl
 
-mark_part : standing END.number ≡ name_of END
-unfolding labels starts
+mark_part : standing END ≡ name_of END
+unfolding label_text fields digits_of
 mark_part = refl
 
-stands : (k : ℕ) → k < 72 → standing k ≡ name_of (field_of k)
-stands k h = at_number standing parts mark_part k h
+stands : (k : ℕ) → k < 72 → standing (field_of k) ≡ name_text k
+stands k h =
+    sym (get_or-map standing fields k END)
+    ∙ ap (λ (l : List (List ℕ)). get_or l k (standing END)) parts
+    ∙ ap (get_or (map name_of fields) k) mark_part
+    ∙ get_or-map name_of fields k END
+    ∙ sym (name_of_lem k h)
 
-ordered : (k : ℕ) → k < 72 → begin k + 4 ≤ begin (suc k)
-unfolding starts
-ordered k h = leb→le _ _ (field_law (λ i f. leb (begin i + 4) (begin (suc i))) tt k h)
+some_there : (k : ℕ) → k < 72 → 4 ≤ length (label_text (field_of k))
+unfolding label_text fields digits_of
+some_there k h = leb→le _ _ (field_law (λ i f. leb 4 (length (label_text f))) tt k h)
 
 -- the name ends three or four characters before its label
-ends_by : (b : Bool) (e : ℕ) → 4 ≤ e → (e ≤ cond b (e - 3) (e - 4) + 4) × (cond b (e - 3) (e - 4) ≤ e)
-ends_by true e h = (omega arith, omega arith)
-ends_by false e h = (omega arith, omega arith)
+ends_by : (b : Bool) (e : ℕ) → 4 ≤ e → cond b (e - 3) (e - 4) ≤ e
+ends_by true e h = omega arith
+ends_by false e h = omega arith
 
--- of the name of field k in what is lent
-pub record Cut (ls ss : List ℕ) (k : ℕ) : Type 0 where
-  pub within : k + 1 < length ss
-  pub some_before : 4 ≤ get_or ss (k + 1) 0
-  pub inside : get_or ss (k + 1) 0 ≤ length ls
-  pub order : get_or ss k 0 ≤ name_end ls (get_or ss (k + 1) 0)
-  pub ends : name_end ls (get_or ss (k + 1) 0) ≤ length ls
-  pub is : take (name_end ls (get_or ss (k + 1) 0) - get_or ss k 0) (drop (get_or ss k 0) ls) ≡ name_text k
+-- of the name in the label l of field k
+pub record Cut (l : List ℕ) (k : ℕ) : Type 0 where
+  pub some_there : 4 ≤ length l
+  pub ends : name_end l (length l) ≤ length l
+  pub is : take (name_end l (length l)) l ≡ name_text k
 
-own_cut : (k : ℕ) → k < 72 → Cut labels starts k
-own_cut k h =
-    let p = own_part k h in
-    let far : get_or starts k 0 + 4 ≤ get_or starts (k + 1) 0 = rw (add-one k) (ordered k h) in
-    let end = ends_by (eqb (get_or labels (get_or starts (k + 1) 0 - 3) 0) 44) (get_or starts (k + 1) 0) (omega (arith, far)) in
-    record {
-      within = p.within;
-      some_before = omega (arith, far);
-      inside = p.inside;
-      order = omega (arith, far, end.0);
-      ends = omega (arith, end.1, p.inside);
-      is = rw (add-one k) (stands k h ∙ sym (name_of_lem k h));
-    }
-
-pub cut : {ls ss : List ℕ} → Tables ls ss → (k : ℕ) → k < 72 → Cut ls ss k
-cut {ls} {ss} t k h =
-    subst (λ (l : List ℕ). Cut l ss k) (sym t.texts) (subst (λ (s : List ℕ). Cut labels s k) (sym t.begin) (own_cut k h))
+pub cut : (l : List ℕ) (k : ℕ) → l ≡ label_text (field_of k) → k < 72 → Cut l k
+cut l k e h = subst (λ (x : List ℕ). Cut x k) (sym e) own
+  where
+    own : Cut (label_text (field_of k)) k
+    own =
+        let long = some_there k h in
+        let n = length (label_text (field_of k)) in
+        record { some_there = long; ends = ends_by (eqb (get_or (label_text (field_of k)) (n - 3) 0) 44) n long; is = stands k h }
 
 -- ---- nothing put
 

@@ -1,5 +1,6 @@
 -- The normal form that the normaliser leaves, and what normalising it leaves, by what the normaliser promises alone: the laws that a normal form is
 -- accepted, has as many bits as its original and is its own normal form. For any terms. Assumes nothing.
+use Rattle.std.specs.Prelude.{Ok, Err}
 use mathlib.Core.List.{List}
 use mathlib.Core.Path.{◌≡◌, sym, ap, ◌∙◌}
 use Prim.Native.Nat.{ℕ, ◌≤◌, ◌<◌}
@@ -8,14 +9,12 @@ use lib.ListN.{length, take, drop, length-append}
 use lib.Seq.{take_at}
 use Rattle.bits.specs.Bits.{bytes_of, bytes_for}
 use Rattle.format.specs.Normal.{normal}
-use Rattle.format.specs.Refusals.{in_numbers}
+use Rattle.format.specs.Refusals.{in_numbers, Answer}
 use Rattle.format.specs.Rules.{Terms}
 use Rattle.format.specs.Telegrams.{Entry, Result, Telegram, bits, bit_count}
 use Rattle.format.specs.Telegrams.Result.{accepted}
 use Rattle.format.specs.declared.Kind.TheVariants.{Room}
 use Rattle.format.specs.declared.Refusal.{Refusal}
-use Rattle.format.specs.declared.Answer.{Answer}
-use Rattle.format.specs.declared.Answer.TheVariants.{Accepted, Refused}
 use Rattle.laws.proofs.Demand2.{length_bits}
 use Rattle.laws.proofs.Demand3.{normal_count, normal_accepted, normal_again}
 use Rattle.states.specs.Reader.{early, checked}
@@ -61,8 +60,8 @@ module _ (p : Terms) (s : List ℕ) (n : ℕ) (x : List ℕ) (g : Ready p s n x)
 
   -- what the normaliser then gives and leaves
   module _ (x_after : List ℕ) {a : Answer} (h : Normalise p s n x a x_after) where
-    pub gives : a ≡ Accepted n
-    gives = normalise_answer h ∙ ap size_of form_is ∙ ap Accepted (sym form_size)
+    pub gives : a ≡ Ok n
+    gives = normalise_answer h ∙ ap size_of form_is ∙ ap Ok (sym form_size)
 
     pub holds : x_after ≡ bytes_over (accepted form) x
     holds = h.contents ∙ ap (λ (r : Result). bytes_over r x) form_is
@@ -79,7 +78,7 @@ module _ (p : Terms) (s : List ℕ) (n : ℕ) (x : List ℕ) (g : Ready p s n x)
 
 -- ---- where the normaliser accepts, the telegram is accepted, with room
 
-module _ (p : Terms) (s : List ℕ) (n : ℕ) (x x_after : List ℕ) {a : Answer} (h : Normalise p s n x a x_after) {k : ℕ} (e : a ≡ Accepted k) where
+module _ (p : Terms) (s : List ℕ) (n : ℕ) (x x_after : List ℕ) {a : Answer} (h : Normalise p s n x a x_after) {k : ℕ} (e : a ≡ Ok k) where
   pub ready : Ready p s n x
   ready =
       let g = (normalise_stores h e).1 in
@@ -94,7 +93,7 @@ module _ (p : Terms) (s : List ℕ) (n : ℕ) (x y : List ℕ) where
   abbrev once_into : Result
   once_into = normalise_into p s n (length x)
 
-  pub no_room_for_second : length y < 104 → Renormalised p s n x y (Refused (early Room)) x y
+  pub no_room_for_second : length y < 104 → Renormalised p s n x y (Err (early Room)) x y
   no_room_for_second h =
       let f = without_room 104 (length y) once_into h in
       record { answers = rw f; once = rw f; twice = rw f }
@@ -103,12 +102,12 @@ module _ (p : Terms) (s : List ℕ) (n : ℕ) (x y : List ℕ) where
   as_once room = with_room 104 (length y) once_into room
 
   module _ (x_after : List ℕ) (room : 104 ≤ length y) {a : Answer} (h : Normalise p s n x a x_after) where
-    pub form_refused : {r : Refusal} → a ≡ Refused r → Renormalised p s n x y a x_after y
+    pub form_refused : {r : Refusal} → a ≡ Err r → Renormalised p s n x y a x_after y
     form_refused {r} e =
         let f = as_once room ∙ was_refused bit_count once_into a r (normalise_answer h) e in
         record { answers = rw f (ap in_numbers e); once = rw (as_once room) h.contents; twice = rw f }
 
-    pub renormalises : {b : Answer} {k j : ℕ} {y_after : List ℕ} → a ≡ Accepted k → j ≡ bytes_for k → Normalise p (take j x_after) k y b y_after
+    pub renormalises : {b : Answer} {k j : ℕ} {y_after : List ℕ} → a ≡ Ok k → j ≡ bytes_for k → Normalise p (take j x_after) k y b y_after
         → Renormalised p s n x y b x_after y_after
     renormalises {b} {k} {j} {y_after} e m i =
         let g = ready p s n x x_after h e in

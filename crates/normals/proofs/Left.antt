@@ -1,4 +1,5 @@
 -- Demand 3, of the bytes that the normaliser leaves, by its promise alone; and of `renormalised`, by its own. For any terms. Assumes nothing.
+use Rattle.std.specs.Prelude.{Ok, Err}
 use mathlib.Core.List.{List}
 use mathlib.Core.Logic.{◌↔◌}
 use mathlib.Core.Path.{◌≡◌, refl, sym, ap, ◌∙◌}
@@ -9,8 +10,6 @@ use Rattle.format.specs.Normal.{says, normal}
 use Rattle.format.specs.Rules.{Terms}
 use Rattle.format.specs.Telegrams.{Entry, Result, bits}
 use Rattle.format.specs.Telegrams.Result.{accepted}
-use Rattle.format.specs.declared.Answer.{Answer}
-use Rattle.format.specs.declared.Answer.TheVariants.{Accepted, Refused}
 use Rattle.format.specs.declared.Refusal.{Refusal}
 use Rattle.format.proofs.Numbers.{answer_is}
 use Rattle.laws.proofs.Demand3.{normal_says, normal_again, same_says}
@@ -22,6 +21,7 @@ use Rattle.states.proofs.Checking.{was_refused}
 use Rattle.states.proofs.Rooms.{with_room}
 use Rattle.normals.specs.Normals.{renormalise_into, Renormalised, Ready}
 use Rattle.normals.proofs.Forms.{form, original, form_telegram, form_is, form_accepted, gives, front, ready, given_size}
+use Rattle.format.specs.Refusals.{Answer}
 
 -- the ceil(n/8) bytes in front
 abbrev pub left : ℕ → List ℕ → List ℕ
@@ -36,9 +36,9 @@ pub record NormalLeft (p : Terms) (s : List ℕ) (n : ℕ) (after : List ℕ) : 
   pub accepts_left : checked p (left n after) n ≡ accepted normals
   pub says_same : says normals ≡ says entries
   pub unchanged : (y : List ℕ) → 104 ≤ length y → (b : Answer) (y_after : List ℕ) → Normalise p (left n after) n y b y_after
-      → (b ≡ Accepted n) × (left n y_after ≡ left n after)
+      → (b ≡ Ok n) × (left n y_after ≡ left n after)
 
-module _ (p : Terms) (s : List ℕ) (n : ℕ) (x x_after : List ℕ) {a : Answer} (h : Normalise p s n x a x_after) {k : ℕ} (e : a ≡ Accepted k) where
+module _ (p : Terms) (s : List ℕ) (n : ℕ) (x x_after : List ℕ) {a : Answer} (h : Normalise p s n x a x_after) {k : ℕ} (e : a ≡ Ok k) where
   abbrev ground : Ready p s n x
   ground = ready p s n x x_after h e
 
@@ -67,7 +67,7 @@ module _ (p : Terms) (s : List ℕ) (n : ℕ) (x x_after : List ℕ) {a : Answer
 
 -- "Take two accepted telegrams. They say the same .. exactly when their normal forms have the same bits": exactly when the same bytes are left
 pub says_just_where : (p : Terms) (s : List ℕ) (n : ℕ) (t : List ℕ) (m : ℕ) (x y x_after y_after : List ℕ) {a b : Answer} {k l : ℕ}
-    (h : Normalise p s n x a x_after) (e : a ≡ Accepted k) (i : Normalise p t m y b y_after) (f : b ≡ Accepted l)
+    (h : Normalise p s n x a x_after) (e : a ≡ Ok k) (i : Normalise p t m y b y_after) (f : b ≡ Ok l)
     → (es fs : List Entry) → checked p s n ≡ accepted es → checked p t m ≡ accepted fs
     → (says es ≡ says fs) ↔ (left n x_after ≡ left m y_after)
 says_just_where p s n t m x y x_after y_after h e i f es fs c d =
@@ -89,7 +89,7 @@ says_just_where p s n t m x y x_after y_after h e i f es fs c d =
 
 -- "A refusal .. changes no output"
 pub renormalised_keeps : {p : Terms} {s : List ℕ} {n : ℕ} {x y x_after y_after : List ℕ} {a : Answer} {r : Refusal}
-    → Renormalised p s n x y a x_after y_after → a ≡ Refused r → (x_after ≡ x) × (y_after ≡ y)
+    → Renormalised p s n x y a x_after y_after → a ≡ Err r → (x_after ≡ x) × (y_after ≡ y)
 renormalised_keeps {p} {s} {n} {x} {y} {a = a} {r = r} h e =
     let z = renormalise_into p s n (length x) (length y) in
     let f = was_refused (λ es. n) z a r (answer_is a (answered (λ es. n) z) h.answers) e in
@@ -99,11 +99,11 @@ module _ (p : Terms) where
   -- "normalising it again changes nothing": the answer is n, and both lent slices begin with the same bytes
   pub renormalised_unchanged : (s : List ℕ) (n : ℕ) (x y : List ℕ) (es : List Entry) → checked p s n ≡ accepted es → 104 ≤ length x
       → 104 ≤ length y → (answer : Answer) (x_after y_after : List ℕ) → Renormalised p s n x y answer x_after y_after
-      → (answer ≡ Accepted n) × (x_after ≡ bytes_over (accepted (normal es)) x) × (y_after ≡ bytes_over (accepted (normal es)) y)
+      → (answer ≡ Ok n) × (x_after ≡ bytes_over (accepted (normal es)) x) × (y_after ≡ bytes_over (accepted (normal es)) y)
   renormalised_unchanged s n x y es c rx ry answer x_after y_after h =
       let g : Ready p s n x = record { entries = es; accepts = c; room = rx } in
       let f = with_room 104 (length y) _ ry ∙ form_is p s n x g in (
-        answer_is answer (Accepted n) (h.answers ∙ rw f),
+        answer_is answer (Ok n) (h.answers ∙ rw f),
         h.once ∙ rw f,
         h.twice ∙ rw f,
       )

@@ -1,10 +1,9 @@
 -- Demand 3: "A normal form is itself accepted .. and normalising it again changes nothing". Definitions alone.
 use Rattle.std.specs.Prelude.{List, ◌≡◌, ℕ, ◌≤◌, length}
-use Rattle.format.specs.Refusals.{in_numbers}
+use Rattle.format.specs.Refusals.{in_numbers, Answer}
 use Rattle.format.specs.Rules.{Terms}
 use Rattle.format.specs.Telegrams.{Entry, Result}
 use Rattle.format.specs.Telegrams.Result.{accepted}
-use Rattle.format.specs.declared.Answer.{Answer}
 use Rattle.states.specs.Reader.{bytes_needed, checked, roomed, answered}
 use Rattle.states.specs.Writer.{bytes_over}
 use Rattle.states.specs.Normaliser.{normalise_into}

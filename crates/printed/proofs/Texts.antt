@@ -1,4 +1,5 @@
 -- What is printed, put piece by piece. Assumes nothing.
+use Rattle.std.specs.Prelude.{Ok, Err}
 use mathlib.Core.Path.{◌≡◌, sym, ap, ◌∙◌, subst}
 use mathlib.Core.List.{List}
 use Prim.Native.Nat.{ℕ, ◌+◌, ◌≤◌, ◌<◌}
@@ -14,12 +15,13 @@ use Rattle.pieces.specs.Pieces.{Grown}
 use Rattle.pieces.proofs.Starts.{grown_none}
 use Rattle.sheet.specs.Rows.{sheet_text}
 use Rattle.sheet.specs.Sheets.{length_of, sheet_over, exported, Export}
-use Rattle.sheet.specs.declared.Reply.{Reply}
-use Rattle.sheet.specs.declared.Reply.TheVariants.{Done, Refused, Row}
 use Rattle.sheet.proofs.Numbers.{export_answer}
 use Rattle.states.specs.Reader.{at_once, checked}
 use Rattle.printed.specs.Printed.{told, sheet_or, out_text, out_into}
 use Rattle.line_text.specs.Lines.{line_length, refusal}
+use Rattle.sheet.specs.declared.SheetError.{SheetError}
+use Rattle.sheet.specs.declared.SheetError.TheVariants.{Refused, Row}
+use Rattle.sheet.specs.Replies.{Reply}
 
 -- what is put lies within what is lent
 pub grown_within : {before text out : List ℕ} {at : ℕ} → Grown before text at out → at ≤ length out
@@ -43,14 +45,14 @@ pub untold : {reply : Reply} (r : Result) (before : List ℕ) → reply ≡ leng
 untold r before x e = (x ∙ ap length_of e, ap (λ (y : Result). sheet_over y before) e)
 
 module _ (r : Result) (before mid : List ℕ) (reply : Reply) (is : reply ≡ length_of r) (over : mid ≡ sheet_over r before) where
-  sheet_done : (end : ℕ) → reply ≡ Done end → Grown before (sheet_or r) end mid
+  sheet_done : (end : ℕ) → reply ≡ Ok end → Grown before (sheet_or r) end mid
   sheet_done end e = by r is over
     where
       by : (r : Result) → reply ≡ length_of r → mid ≡ sheet_over r before → Grown before (sheet_or r) end mid
       by (accepted es) is over = let same : end ≡ length (sheet_text es) = cc in record { here = same; is = over }
       by (refused x) is over = let z : ◌≡◌ {A = ℕ} 0 1 = cc in absurd (omega arith)
 
-  sheet_refused : (x : Refusal) (end : ℕ) (after : List ℕ) → reply ≡ Refused x → Grown mid (refusal reply) end after
+  sheet_refused : (x : Refusal) (end : ℕ) (after : List ℕ) → reply ≡ Err (Refused x) → Grown mid (refusal reply) end after
       → Grown before (sheet_or r) end after
   sheet_refused x end after e g = by r is over
     where
@@ -58,7 +60,7 @@ module _ (r : Result) (before mid : List ℕ) (reply : Reply) (is : reply ≡ le
       by (accepted es) is over = let z : ◌≡◌ {A = ℕ} 0 1 = cc in absurd (omega arith)
       by (refused y) is over = subst (λ (p : Reply). Grown before (refusal p) end after) is (subst (λ (m : List ℕ). Grown m (refusal reply) end after) over g)
 
-  sheet_rowless : (k : ℕ) → reply ≡ Row k → ⊥
+  sheet_rowless : (k : ℕ) → reply ≡ Err (Row k) → ⊥
   sheet_rowless k e = by r is
     where
       by : (r : Result) → reply ≡ length_of r → ⊥
@@ -72,16 +74,19 @@ module _ (input before mid : List ℕ) (n : ℕ) (reply : Reply) (e : n ≡ line
     unfolding out_text
     out_is = ap (λ (k : ℕ). sheet_or (told (take k input))) e
 
-    pub out_done : (end : ℕ) → reply ≡ Done end → Grown before (out_text input) end mid
+    pub out_done : (end : ℕ) → reply ≡ Ok end → Grown before (out_text input) end mid
     out_done end d = subst (λ (t : List ℕ). Grown before t end mid) out_is (sheet_done (told (take n input)) before mid reply is over end d)
 
-    pub out_refused : (x : Refusal) (end : ℕ) (after : List ℕ) → reply ≡ Refused x → Grown mid (refusal reply) end after
+    out_refused : (x : Refusal) (end : ℕ) (after : List ℕ) → reply ≡ Err (Refused x) → Grown mid (refusal reply) end after
         → Grown before (out_text input) end after
     out_refused x end after d g =
         subst (λ (t : List ℕ). Grown before t end after) out_is (sheet_refused (told (take n input)) before mid reply is over x end after d g)
 
-    pub out_rowless : (k : ℕ) → reply ≡ Row k → ⊥
-    out_rowless k d = sheet_rowless (told (take n input)) before mid reply is over k d
+    -- an error is a refusal, since export tells no row
+    pub out_failed : (x : SheetError) (end : ℕ) (after : List ℕ) → reply ≡ Err x → Grown mid (refusal reply) end after
+        → Grown before (out_text input) end after
+    out_failed (Refused x) end after d g = out_refused x end after d g
+    out_failed (Row k) end after d g = absurd (sheet_rowless (told (take n input)) before mid reply is over k d)
 
 -- every room
 pub out_roomless : (input before : List ℕ) → length before < 65536 → Grown before (out_into input (length before)) 0 before

@@ -1,5 +1,5 @@
 -- What the program `sheets out` prints for an input, whole. Definitions alone.
-use Rattle.std.specs.Prelude.{◌≡◌, cond, List, [], ℕ, leb, length, take}
+use Rattle.std.specs.Prelude.{◌≡◌, cond, List, [], ℕ, leb, length, take, Err}
 use Rattle.bits.specs.Bits.{bytes_of}
 use Rattle.format.specs.Rules.{paper}
 use Rattle.format.specs.Telegrams.{Result}
@@ -7,9 +7,9 @@ use Rattle.format.specs.Telegrams.Result.{accepted, refused}
 use Rattle.format.specs.declared.Kind.TheVariants.{Size}
 use Rattle.packing.specs.Packing.{binary, bits_in}
 use Rattle.sheet.specs.Rows.{sheet_text}
-use Rattle.sheet.specs.declared.Reply.TheVariants.{Refused}
 use Rattle.states.specs.Reader.{at_once, checked}
 use Rattle.line_text.specs.Lines.{line_length, refusal}
+use Rattle.sheet.specs.declared.SheetError.TheVariants.{Refused}
 
 -- the telegram that a line writes, or what refuses it: another character as a wrong length does
 unfoldable pub told : List ℕ → Result
@@ -17,7 +17,7 @@ told line = cond (binary line) (checked paper (bytes_of (bits_in line)) (length 
 
 abbrev pub sheet_or : Result → List ℕ
 sheet_or (accepted es) = sheet_text es
-sheet_or (refused r) = refusal (Refused r)
+sheet_or (refused r) = refusal (Err (Refused r))
 
 unfoldable pub out_text : List ℕ → List ℕ
 out_text input = sheet_or (told (take (line_length input) input))

@@ -3,15 +3,12 @@
 
 ghost use Rattle.std.specs.Prelude.{◌≡◌, ◌≤◌, length};
 ghost use Rattle.pieces.specs.Pieces.{Grown};
-ghost use Rattle.format.specs.declared.Kind.TheVariants.{Size};
 ghost use Rattle.sheet.specs.Sheets.{length_of, sheet_over};
-ghost use Rattle.states.specs.Reader.{at_once};
 ghost use Rattle.printed.specs.Printed.{told, out_into, TellsLine};
 
 use format::{Kind, Refusal};
 use line_text::{line_length, refuse};
-use packing::Packed;
-use sheet::Reply;
+use sheet::SheetError;
 
 // No telegram has more than 830 bits. An input of 832 bytes or more has at least 831 characters before a newline at its end and is
 // refused for that, whatever they are.
@@ -35,33 +32,19 @@ pub fn from_line(input: &[u8], out: &mut [u8]) -> usize
     let n = line_length(input);
     let reply = exported(&input[..n], out);
     match reply {
-        Reply::Done(end) => end,
-        Reply::Refused(_) => refuse(reply, out),
-        Reply::Row(_) => refuse(reply, out),
+        Ok(end) => end,
+        Err(_) => refuse(reply, out),
     }
 }
 
 // A line with another character is refused as one of a wrong length is.
-fn exported(line: &[u8], out: &mut [u8]) -> Reply
+fn exported(line: &[u8], out: &mut [u8]) -> Result<usize, SheetError>
     requires { 65536 ≤ length out.old }
     ensures { (result ≡ length_of (told line.now)) × (out.new ≡ sheet_over (told line.now) out.old) }
 {
     let mut s = [0u8; 104];
-    match packing::pack(line, &mut s) {
-        Packed::Bits(n) => {
-            let k = bits::bytes_for(n);
-            sheet_out::export(&s[..k], n, out)
-        }
-        Packed::Other => no_telegram(),
-        Packed::Room => no_telegram(),
-    }
-}
-
-fn no_telegram() -> Reply
-    ensures { result ≡ length_of (at_once Size) }
-{
-    Reply::Refused(Refusal {
-        kind: Kind::Size,
-        place: 0,
-    })
+    let Ok(n) = packing::pack(line, &mut s) else {
+        return Err(Refusal::at_once(Kind::Size).into());
+    };
+    sheet_out::export(&s[..bits::bytes_for(n)], n, out)
 }

@@ -1,4 +1,5 @@
 -- What is printed for a sheet, put piece by piece. Assumes nothing.
+use Rattle.std.specs.Prelude.{Ok, Err}
 use mathlib.Core.Path.{◌≡◌, refl, sym, ap, ap₂, ◌∙◌, subst}
 use mathlib.Core.List.{List, ◌++◌}
 use Prim.Native.Nat.{ℕ, ◌+◌, ◌*◌, ◌≤◌, ◌<◌}
@@ -10,14 +11,11 @@ use Rattle.bits.specs.Bits.{bits_of, bytes_of, bytes_for}
 use Rattle.bits.proofs.Bytes.{length_bits_of, bits_of_append, length_bytes_of, take_bits_of_bytes_of}
 use Rattle.format.specs.Rules.{paper}
 use Rattle.format.specs.Telegrams.{bits, bit_count}
-use Rattle.format.specs.declared.Refusal.{Refusal}
 use Rattle.laws.proofs.Demand2.{length_bits, below_bits}
 use Rattle.pieces.specs.Pieces.{Appended, Grown}
 use Rattle.pieces.proofs.Starts.{grown_none, grows}
 use Rattle.sheet.specs.Sheets.{Imported, imported, import_into, size_of, bytes_over, Import}
 use Rattle.sheet.specs.Sheets.Imported.{taken, refused_by, refused_at}
-use Rattle.sheet.specs.declared.Reply.{Reply}
-use Rattle.sheet.specs.declared.Reply.TheVariants.{Done, Refused, Row}
 use Rattle.sheet.proofs.Numbers.{import_answer}
 use Rattle.printed_in.specs.Sheet.{line_or, in_text, in_into}
 use Rattle.line_text.specs.Characters.{characters_into}
@@ -25,6 +23,8 @@ use Rattle.packing.specs.Packing.{characters}
 use Rattle.packing.proofs.Characters.{length_characters}
 use Rattle.line_text.specs.Lines.{newline, refusal}
 use Rattle.line_text.proofs.Binary.{characters_into_lem}
+use Rattle.sheet.specs.declared.SheetError.{SheetError}
+use Rattle.sheet.specs.Replies.{Reply}
 
 pub in_roomless : (input before : List ℕ) → length before < 1024 → Grown before (in_into input (length before)) 0 before
 unfolding in_into
@@ -60,7 +60,7 @@ module _ (input before s : List ℕ) (reply : Reply) (room : length before ≡ 1
   in_is : reply ≡ size_of (imported paper input)
   in_is = import_answer h ∙ ap size_of into
 
-  pub in_done : (n : ℕ) → reply ≡ Done n → InLine input s n
+  pub in_done : (n : ℕ) → reply ≡ Ok n → InLine input s n
   unfolding in_text
   in_done n e = by (imported paper input) refl in_is (h.contents ∙ ap (λ (i : Imported). bytes_over i before) into)
     where
@@ -82,7 +82,7 @@ module _ (input before s : List ℕ) (reply : Reply) (room : length before ≡ 1
       by (refused_by x) i is over = let z : ◌≡◌ {A = ℕ} 0 1 = cc in absurd (omega arith)
       by (refused_at k) i is over = let z : ◌≡◌ {A = ℕ} 0 1 = cc in absurd (omega arith)
 
-  in_other : ((n : ℕ) → reply ≡ Done n → ⊥) → refusal reply ≡ in_text input
+  in_other : ((n : ℕ) → reply ≡ Ok n → ⊥) → refusal reply ≡ in_text input
   unfolding in_text
   in_other not_done = by (imported paper input) in_is
     where
@@ -91,11 +91,8 @@ module _ (input before s : List ℕ) (reply : Reply) (room : length before ≡ 1
       by (refused_by x) is = ap refusal is
       by (refused_at k) is = ap refusal is
 
-  pub in_refused : (x : Refusal) → reply ≡ Refused x → refusal reply ≡ in_text input
-  in_refused x e = in_other (λ n d. let z : ◌≡◌ {A = ℕ} 0 1 = cc in omega arith)
-
-  pub in_row : (k : ℕ) → reply ≡ Row k → refusal reply ≡ in_text input
-  in_row k e = in_other (λ n d. let z : ◌≡◌ {A = ℕ} 0 1 = cc in omega arith)
+  pub in_failed : (x : SheetError) → reply ≡ Err x → refusal reply ≡ in_text input
+  in_failed x e = in_other (λ n d. let z : ◌≡◌ {A = ℕ} 0 1 = cc in omega arith)
 
 -- the line, and its newline
 pub line_put : {input s before mid after : List ℕ} {n e end : ℕ} → InLine input s n → 1024 ≤ length before

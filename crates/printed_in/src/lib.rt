@@ -7,7 +7,7 @@ ghost use Rattle.printed_in.specs.Sheet.{in_into};
 
 use line_text::{characters, refuse};
 use pieces::append;
-use sheet::Reply;
+use sheet::SheetError;
 
 // Puts the line of the telegram whose sheet the input is, or what refuses it, into out, and gives where it ends. Under 1,024 bytes nothing is
 // put, and it ends at 0.
@@ -20,11 +20,10 @@ pub fn from_sheet(input: &[u8], out: &mut [u8]) -> usize
     let mut s = [0u8; 104];
     let reply = sheet_in::import(input, &mut s);
     match reply {
-        Reply::Done(n) => {
+        Ok(n) => {
             let end = characters(&s, n, out);
             append(out, end, b"\n")
         }
-        Reply::Refused(_) => refuse(reply, out),
-        Reply::Row(_) => refuse(reply, out),
+        Err(_) => refuse(reply, out),
     }
 }

@@ -1,18 +1,24 @@
 -- Rows as two lists, of the fields' numbers and of the values: what they stand for, and what the loops go by that fill or write them. Assumes
 -- nothing.
+use Rattle.std.specs.Prelude.{Some, None, position, zip}
+use Rattle.std.specs.List.{position_or_len}
 use mathlib.Core.Path.{◌≡◌, refl, sym, ap, ap₂, ◌∙◌, subst}
-use mathlib.Core.Bool.{cond}
+use mathlib.Core.Bool.{Bool, true, false, not, cond}
 use mathlib.Core.List.{List, [], ◌∷◌, ◌++◌, append_assoc, append-nil}
 use mathlib.Core.Option.{some, none}
 use Prim.Native.Nat.{ℕ, zero, suc, ◌+◌, ◌*◌, ◌≤◌, ◌<◌}
 use native.Mathlib.Numerals.{add-one}
 use native.Mathlib.Omega.{arith}
-use borrow.Author.Tests.{eq-eqb, ne_eqb}
-use lib.Dec.{eqb}
-use lib.ListN.{length, take, drop, get_or, length-append, drop_of_length-le}
-use lib.Seq.{drop-cons, take-suc, take_all, length-take-le}
+use borrow.Author.Tests.{lt-ltb}
+use Rattle.std.proofs.lemmas.Bool.Decides.{nat_tests}
+use Rattle.std.proofs.lemmas.List.Quantifiers.{position-Some}
+use Rattle.std.proofs.lemmas.Slice.Zip.{length-zip}
+use lib.Dec.{eqb, ltb}
+use lib.ListN.{length, take, get_or, length-append}
+use lib.Seq.{take-suc, take_all, length-take-le}
 use Rattle.bits.specs.Bits.{Below}
 use Rattle.bits.proofs.Bytes.{below_take}
+use Rattle.bits.proofs.Pairs.{held}
 use Rattle.format.specs.Telegrams.{Entry, all, values, values_in}
 use Rattle.states.specs.Labels.{numbers, numbers_in}
 use Rattle.laws.proofs.Round.{all_append}
@@ -132,23 +138,53 @@ module _ {ks vs before : List ℕ} {start at : ℕ} {out : List ℕ} {i : ℕ} (
 
 -- ---- the first row with another name
 
-module _ (ks ds : List ℕ) (i : ℕ) (h : i < length ks) (g : i < length ds) where
-  other_at : other_name i (drop i ks) (drop i ds) ≡ cond (eqb (get_or ks i 0) (get_or ds i 0)) (other_name (i + 1) (drop (i + 1) ks) (drop (i + 1) ds)) (some (i + 1))
-  other_at =
-      ap₂ (other_name i) (drop-cons ks i 0 h) (drop-cons ds i 0 g)
-      ∙ ap (λ (n : ℕ). cond (eqb (get_or ks i 0) (get_or ds i 0)) (other_name n (drop n ks) (drop n ds)) (some n)) (sym (add-one i))
+-- two numbers that differ, as the code's search for them asks
+abbrev pub unlike : ℕ × ℕ → Bool
+unlike p = not (eqb p.0 p.1)
 
-  pub other_here : (get_or ks i 0 ≡ get_or ds i 0 → ⊥) → other_name i (drop i ks) (drop i ds) ≡ cond (eqb (i + 1) 0) none (some (i + 1))
-  other_here n =
-      let z : i + 1 ≡ 0 → ⊥ = λ e. absurd (omega arith) in
-      other_at ∙ rw (ne_eqb (get_or ks i 0) (get_or ds i 0) n, ne_eqb (i + 1) 0 z)
+below_next : (a b : ℕ) → ltb (1 + a) (suc b) ≡ ltb a b
+below_next a b = grind (arith, nat_tests)
 
-  pub other_later : get_or ks i 0 ≡ get_or ds i 0 → other_name i (drop i ks) (drop i ds) ≡ other_name (i + 1) (drop (i + 1) ks) (drop (i + 1) ds)
-  other_later e = other_at ∙ rw (eq-eqb (get_or ks i 0) (get_or ds i 0) e)
+-- how many rows there are before the first that has another name, and how many are compared
+abbrev before_other : List ℕ → List ℕ → ℕ
+before_other ks ds = position_or_len unlike (zip ks ds)
 
-pub other_none : (ks ds : List ℕ) (i : ℕ) → length ks ≤ i → other_name i (drop i ks) (drop i ds) ≡ none
-other_none ks ds i h = ap (λ (l : List ℕ). other_name i l (drop i ds)) (drop_of_length-le ks {i = i} h)
+abbrev compared : List ℕ → List ℕ → ℕ
+compared ks ds = length (zip ks ds)
 
--- no more are due
-pub other_past : (ks ds : List ℕ) (i : ℕ) → i < length ks → length ds ≤ i → other_name i (drop i ks) (drop i ds) ≡ none
-other_past ks ds i h g = ap₂ (other_name i) (drop-cons ks i 0 h) (drop_of_length-le ds {i = i} g)
+other_from : (n : ℕ) (ks ds : List ℕ)
+    → other_name n ks ds ≡ cond (ltb (before_other ks ds) (compared ks ds)) (some (suc (n + before_other ks ds))) none
+other_from n [] ds = refl
+other_from n (k ∷ ks) [] = refl
+other_from n (k ∷ ks) (d ∷ ds) = by (eqb k d) (other_from (suc n) ks ds)
+  where
+    by : (b : Bool) → other_name (suc n) ks ds ≡ cond (ltb (before_other ks ds) (compared ks ds)) (some (suc (suc n + before_other ks ds))) none
+        → cond b (other_name (suc n) ks ds) (some (suc n))
+        ≡ cond (ltb (cond (not (not b)) (1 + before_other ks ds) 0) (suc (compared ks ds))) (some (suc (n + cond (not (not b)) (1 + before_other ks ds) 0))) none
+    by true e =
+        let next : suc (suc n + before_other ks ds) ≡ suc (n + (1 + before_other ks ds)) = omega arith in
+        e ∙ rw (below_next (before_other ks ds) (compared ks ds), next)
+    by false e = let here : n + 0 ≡ n = omega arith in rw (here, lt-ltb 0 (suc (compared ks ds)) (omega arith))
+
+module _ (ks ds : List ℕ) where
+  pub some_unlike : (i : ℕ) → Some i ≡ position unlike (zip ks ds) → other_name 0 ks ds ≡ some (i + 1)
+  some_unlike i e = by (ltb (before_other ks ds) (compared ks ds)) refl e
+    where
+      by : (b : Bool) → ltb (before_other ks ds) (compared ks ds) ≡ b → Some i ≡ cond b (Some (before_other ks ds)) None → other_name 0 ks ds ≡ some (i + 1)
+      by true q z =
+          let same : i ≡ before_other ks ds = held i (before_other ks ds) z in
+          let next : suc (0 + before_other ks ds) ≡ i + 1 = omega (arith, same) in
+          other_from 0 ks ds ∙ rw (q, next)
+      by false q z = let w : ◌≡◌ {A = ℕ} 0 1 = cc in absurd (omega arith)
+
+  pub none_unlike : None ≡ position unlike (zip ks ds) → other_name 0 ks ds ≡ none
+  none_unlike e = by (ltb (before_other ks ds) (compared ks ds)) refl e
+    where
+      by : (b : Bool) → ltb (before_other ks ds) (compared ks ds) ≡ b → None ≡ cond b (Some (before_other ks ds)) None → other_name 0 ks ds ≡ none
+      by true q z = let w : ◌≡◌ {A = ℕ} 0 1 = cc in absurd (omega arith)
+      by false q z = other_from 0 ks ds ∙ rw q
+
+  pub unlike_within : (i : ℕ) → Some i ≡ position unlike (zip ks ds) → i < length ks
+  unlike_within i e =
+      let within : i < length (zip ks ds) = (position-Some unlike (zip ks ds) i (0, 0) (sym e)).0 in
+      omega (arith, length-zip ks ds)

@@ -1,4 +1,5 @@
 -- A row at the front of a text, by the tests that the code makes. Assumes nothing.
+use Rattle.std.specs.Prelude.{Some, None, ℕ}
 use mathlib.Core.Path.{◌≡◌, refl, sym, ap, ◌∙◌}
 use mathlib.Core.Bool.{Bool, true, false, cond, ◌&&◌}
 use mathlib.Core.List.{List, [], ◌∷◌, ◌++◌}
@@ -6,21 +7,19 @@ use mathlib.Core.Option.{Option, some, none}
 use Prim.Native.Nat.{ℕ, suc, ◌+◌, ◌≤◌, ◌<◌}
 use native.Mathlib.Numerals.{add-one}
 use native.Mathlib.Omega.{arith}
-use borrow.Author.Tests.{lt-ltb}
 use lib.Dec.{eqb}
 use lib.ListN.{length, drop, length-append, length-drop, drop_of_length-le}
 use lib.Seq.{drop-cons, drop-drop}
+use Rattle.bits.proofs.Pairs.{held_both}
 use Rattle.pieces.specs.Pieces.{begins}
 use Rattle.pieces.specs.Numbers.{Found, read_at}
-use Rattle.pieces.specs.declared.Number.{Number}
-use Rattle.pieces.specs.declared.Number.TheVariants.{Read, Not}
 use Rattle.pieces.proofs.Starts.{begins_is}
 use Rattle.format.specs.Fields.{fields}
 use Rattle.sheet.specs.Rows.{crlf, label_text, field_of}
 use Rattle.sheet.specs.Reading.{Row, row, label_in, value_in, closed, valued, row_in}
 use Rattle.sheet.specs.Steps.{row_at, Labelled}
-use Rattle.sheet.specs.declared.Row.TheVariants.{Is, Bad}
 use Rattle.sheet.proofs.Table.{length_fields}
+use Rattle.std.specs.Prelude as code
 
 -- a text that begins with a piece from at on has room for it
 pub begins_fits : (piece text : List ℕ) (at : ℕ) → begins piece (drop at text) ≡ true → 1 ≤ length piece → at + length piece ≤ length text
@@ -57,42 +56,35 @@ module _ (text : List ℕ) where
   pub sought_on : (k : ℕ) → k < 72 → Sought k → begins (label_text (field_of k)) text ≡ false → Sought (k + 1)
   sought_on k h s e = (omega arith, s.1 ∙ label_next k h ∙ rw e)
 
-  pub found_at : (k : ℕ) → k < 72 → Sought k → begins (label_text (field_of k)) text ≡ true → Labelled text k
-  found_at k h s e = record { few = omega arith; is = s.1 ∙ label_next k h ∙ rw (e, lt-ltb k 72 h); stands = λ l. e }
+  pub found_at : (k : ℕ) → k < 72 → Sought k → begins (label_text (field_of k)) text ≡ true → Labelled text (Some k)
+  found_at k h s e = record { is = s.1 ∙ label_next k h ∙ rw e; stands = (h, e) }
 
-  pub found_none : (k : ℕ) → 72 ≤ k → Sought k → Labelled text 72
+  pub found_none : (k : ℕ) → 72 ≤ k → Sought k → Labelled text None
   found_none k h s =
-      record {
-        few = omega arith;
-        is = s.1 ∙ ap (λ (l : List _). label_in k l text) (drop_of_length-le fields {i = k} (rw length_fields h));
-        stands = λ l. absurd (omega arith);
-      }
+      record { is = s.1 ∙ ap (λ (l : List _). label_in k l text) (drop_of_length-le fields {i = k} (rw length_fields h)); stands = tt }
 
 -- ---- the row
 
-module _ (text : List ℕ) (at k : ℕ) (l : Labelled (drop at text) k) where
-  pub row_nameless : k ≡ 72 → row_at at (row_in (drop at text)) ≡ Bad
+module _ (text : List ℕ) (at : ℕ) where
+  pub row_nameless : Labelled (drop at text) None → row_at at (row_in (drop at text)) ≡ None
   unfolding row_in
-  row_nameless e =
-      let none_is : label_in 0 fields (drop at text) ≡ none = l.is ∙ rw e in
-      ap (λ (x : Option ℕ). row_at at (valued x (drop at text))) none_is
+  row_nameless l = ap (λ (x : Option ℕ). row_at at (valued x (drop at text))) l.is
 
-  module _ (h : k < 72) where
+  module _ (k : ℕ) (l : Labelled (drop at text) (Some k)) where
     abbrev pub size : ℕ
     size = length (label_text (field_of k))
 
     row_is : row_in (drop at text) ≡ closed k size (value_in (field_of k) (drop (at + size) text)) (drop at text)
     unfolding row_in
     row_is =
-        let this : label_in 0 fields (drop at text) ≡ some k = l.is ∙ rw (lt-ltb k 72 h) in
-        ap (λ (x : Option ℕ). valued x (drop at text)) this
+        ap (λ (x : Option ℕ). valued x (drop at text)) l.is
         ∙ ap (λ (x : List ℕ). closed k size (value_in (field_of k) x) (drop at text)) (drop-drop size at text)
 
-    module _ (r : Number) (e : r ≡ read_at (at + size) (value_in (field_of k) (drop (at + size) text))) where
-      pub row_valueless : r ≡ Not → row_at at (row_in (drop at text)) ≡ Bad
+    module _ (r : code.Option (ℕ × ℕ)) (e : r ≡ read_at (at + size) (value_in (field_of k) (drop (at + size) text))) where
+      pub row_valueless : r ≡ None → row_at at (row_in (drop at text)) ≡ None
       row_valueless n = by (value_in (field_of k) (drop (at + size) text)) refl (sym e ∙ n)
         where
-          by : (x : Option Found) → value_in (field_of k) (drop (at + size) text) ≡ x → read_at (at + size) x ≡ Not → row_at at (row_in (drop at text)) ≡ Bad
+          by : (x : Option Found) → value_in (field_of k) (drop (at + size) text) ≡ x → read_at (at + size) x ≡ None → row_at at (row_in (drop at text)) ≡ None
           by none q z = ap (row_at at) row_is ∙ ap (λ (x : Option Found). row_at at (closed k size x (drop at text))) q
           by (some x) q z = let w : ◌≡◌ {A = ℕ} 0 1 = cc in absurd (omega arith)
 
@@ -103,12 +95,14 @@ module _ (text : List ℕ) (at k : ℕ) (l : Labelled (drop at text) k) where
         pub value : v ≡ number.value
         pub ends : end ≡ at + size + number.count
 
-      pub valued_at : {v end : ℕ} → r ≡ Read v end → Valued v end
+      pub valued_at : {v end : ℕ} → r ≡ Some (v, end) → Valued v end
       valued_at {v} {end} n = by (value_in (field_of k) (drop (at + size) text)) refl (sym e ∙ n)
         where
-          by : (x : Option Found) → value_in (field_of k) (drop (at + size) text) ≡ x → read_at (at + size) x ≡ Read v end → Valued v end
+          by : (x : Option Found) → value_in (field_of k) (drop (at + size) text) ≡ x → read_at (at + size) x ≡ Some (v, end) → Valued v end
           by none q z = let w : ◌≡◌ {A = ℕ} 0 1 = cc in absurd (omega arith)
-          by (some x) q z = record { number = x; is = q; value = cc; ends = cc }
+          by (some x) q z =
+              let h = held_both x.value v (at + size + x.count) end z in
+              record { number = x; is = q; value = sym h.0; ends = sym h.1 }
 
       module _ {v end : ℕ} (y : Valued v end) where
         behind : drop (size + y.number.count) (drop at text) ≡ drop end text
@@ -121,13 +115,13 @@ module _ (text : List ℕ) (at k : ℕ) (l : Labelled (drop at text) k) where
         row_closed b q =
             row_is ∙ ap (λ (x : Option Found). closed k size x (drop at text)) y.is ∙ rw (behind, q, ← y.value)
 
-        pub row_open : begins crlf (drop end text) ≡ false → row_at at (row_in (drop at text)) ≡ Bad
+        pub row_open : begins crlf (drop end text) ≡ false → row_at at (row_in (drop at text)) ≡ None
         row_open q = ap (row_at at) (row_closed false q)
 
-        pub row_whole : begins crlf (drop end text) ≡ true → row_at at (row_in (drop at text)) ≡ Is k v (end + 2)
+        pub row_whole : begins crlf (drop end text) ≡ true → row_at at (row_in (drop at text)) ≡ Some (k, v, end + 2)
         row_whole q =
             let here : at + (size + y.number.count + 2) ≡ end + 2 = omega (arith, y.ends) in
-            ap (row_at at) (row_closed true q) ∙ ap (Is k v) here
+            ap (row_at at) (row_closed true q) ∙ ap (λ (e : ℕ). Some (k, v, e)) here
 
 -- ---- a field's number is one of 72
 

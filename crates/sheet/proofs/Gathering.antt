@@ -1,4 +1,5 @@
 -- The rows of a text, read one by one into two lists. Assumes nothing.
+use Rattle.std.specs.Prelude.{Some, None, Ok, Err}
 use mathlib.Core.Path.{◌≡◌, refl, sym, ap, ap₂, ◌∙◌, subst}
 use mathlib.Core.Bool.{true, false}
 use mathlib.Core.List.{List, [], ◌∷◌, ◌++◌, append_assoc, append-nil}
@@ -11,17 +12,16 @@ use lib.ListN.{length, take, drop, set, length-set, drop_of_length-le}
 use lib.Seq.{drop-cons, drop-drop, take-suc-set, length-take-le}
 use Rattle.bits.specs.Bits.{Below}
 use Rattle.bits.proofs.Bytes.{below_append}
+use Rattle.bits.proofs.Pairs.{held}
 use Rattle.format.specs.Telegrams.{Entry}
 use Rattle.pieces.specs.Pieces.{begins}
 use Rattle.sheet.specs.Rows.{heading, entry_of}
 use Rattle.sheet.specs.Reading.{Row, Rows, row_in, above, on_row, rows_in, sheet_in}
 use Rattle.sheet.specs.Reading.Rows.{rows, bad}
 use Rattle.sheet.specs.Steps.{row_at, entries_of, Collecting, Collected}
-use Rattle.sheet.specs.declared.Row.TheVariants.{Is, Bad}
-use Rattle.sheet.specs.declared.Rows.TheVariants as counted
-use Rattle.sheet.specs.declared.Row as row
 use Rattle.sheet.proofs.Fronts.{row_number}
 use Rattle.sheet.proofs.Columns.{entries_more}
+use Rattle.std.specs.Prelude as code
 
 -- rows behind those of a list
 abbrev behind : List Entry → Rows → Rows
@@ -53,7 +53,7 @@ module _ (text : List ℕ) (at n : ℕ) where
     unfolding rows_in
     rows_row left = rw (drop-cons text at 0 h)
 
-    row_bad : (left : ℕ) (o : Option Row) → row_in (drop at text) ≡ o → Bad ≡ row_at at o → rows_in (suc left) n (drop at text) ≡ bad (suc n)
+    row_bad : (left : ℕ) (o : Option Row) → row_in (drop at text) ≡ o → None ≡ row_at at o → rows_in (suc left) n (drop at text) ≡ bad (suc n)
     row_bad left none e z = rows_row left ∙ rw e
     row_bad left (some r) e z = let w : ◌≡◌ {A = ℕ} 0 1 = cc in absurd (omega arith)
 
@@ -62,12 +62,13 @@ module _ (text : List ℕ) (at n : ℕ) where
       pub known : k < 72
       pub goes : rows_in (suc left) n (drop at text) ≡ above (entry_of k v) (rows_in left (suc n) (drop end text))
 
-    row_good : (left k v end : ℕ) (o : Option Row) → row_in (drop at text) ≡ o → Is k v end ≡ row_at at o → Led left k v end
+    row_good : (left k v end : ℕ) (o : Option Row) → row_in (drop at text) ≡ o → Some (k, v, end) ≡ row_at at o → Led left k v end
     row_good left k v end none e z = let w : ◌≡◌ {A = ℕ} 0 1 = cc in absurd (omega arith)
     row_good left k v end (some r) e z =
-        let a : k ≡ r.number = cc in
-        let b : v ≡ r.value = cc in
-        let c : end ≡ at + r.count = cc in
+        let h = held {A = ℕ × ℕ × ℕ} (k, v, end) (r.number, r.value, at + r.count) z in
+        let a : k ≡ r.number = ap (λ (q : ℕ × ℕ × ℕ). q.0) h in
+        let b : v ≡ r.value = ap (λ (q : ℕ × ℕ × ℕ). q.1) h in
+        let c : end ≡ at + r.count = ap (λ (q : ℕ × ℕ × ℕ). q.2) h in
         record {
           known = rw a (row_number (drop at text) r e);
           goes =
@@ -89,7 +90,7 @@ unfolding heading
 length_heading = refl
 
 module _ (text ks vs : List ℕ) where
-  pub headless : begins heading text ≡ false → Collected text (counted.Bad 0) ks vs
+  pub headless : begins heading text ≡ false → Collected text (Err 0) ks vs
   unfolding sheet_in
   headless e = record { is = rw e; few = tt }
 
@@ -105,7 +106,7 @@ module _ (text ks vs : List ℕ) where
       }
 
 module _ {text : List ℕ} {at n : ℕ} {ks vs : List ℕ} (g : Gathered text at n ks vs) where
-  pub gathered_all : length text ≤ at → Collected text (counted.Read n) ks vs
+  pub gathered_all : length text ≤ at → Collected text (Ok n) ks vs
   gathered_all h =
       record {
         is =
@@ -115,7 +116,7 @@ module _ {text : List ℕ} {at n : ℕ} {ks vs : List ℕ} (g : Gathered text at
       }
 
   module _ (h : at < length text) where
-    pub too_many : n ≡ 830 → Collected text (counted.Bad 831) ks vs
+    pub too_many : n ≡ 830 → Collected text (Err 831) ks vs
     too_many e =
         let none : 830 - n ≡ 0 = omega arith in
         let next : suc n ≡ 831 = omega arith in
@@ -137,7 +138,7 @@ module _ {text : List ℕ} {at n : ℕ} {ks vs : List ℕ} (g : Gathered text at
       here : sheet_in text ≡ behind (entries_of (take n ks) (take n vs)) (rows_in (suc (830 - (n + 1))) n (drop at text))
       here = g.goes ∙ ap (λ (l : ℕ). behind (entries_of (take n ks) (take n vs)) (rows_in l n (drop at text))) left
 
-      pub bad_row : {r : row.Row} → r ≡ row_at at (row_in (drop at text)) → r ≡ Bad → Collected text (counted.Bad (n + 1)) ks vs
+      pub bad_row : {r : code.Option (ℕ × ℕ × ℕ)} → r ≡ row_at at (row_in (drop at text)) → r ≡ None → Collected text (Err (n + 1)) ks vs
       bad_row e z =
           record {
             is =
@@ -146,7 +147,7 @@ module _ {text : List ℕ} {at n : ℕ} {ks vs : List ℕ} (g : Gathered text at
             few = tt;
           }
 
-      module _ {r : row.Row} (e : r ≡ row_at at (row_in (drop at text))) {k v end : ℕ} (z : r ≡ Is k v end) where
+      module _ {r : code.Option (ℕ × ℕ × ℕ)} (e : r ≡ row_at at (row_in (drop at text))) {k v end : ℕ} (z : r ≡ Some (k, v, end)) where
         led : Led text at n h (830 - (n + 1)) k v end
         led = row_good text at n h (830 - (n + 1)) k v end (row_in (drop at text)) refl (sym z ∙ e)
 

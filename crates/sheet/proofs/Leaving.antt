@@ -1,5 +1,6 @@
 -- What export, import and `judge` leave in what is lent, each from its promise alone: a refusal, whose number is not 0, leaves it as it was;
 -- otherwise the sheet, or the bytes, of one telegram stand in front of what was there. The first two for any terms. Assumes nothing.
+use Rattle.std.specs.Prelude.{Ok}
 use mathlib.Core.Bool.{Bool, true, false, cond}
 use mathlib.Core.List.{List}
 use mathlib.Core.Logic.{◌≢◌}
@@ -27,14 +28,13 @@ use Rattle.sheet.specs.Rows.{heading, row_text, sheet_text}
 use Rattle.sheet.specs.Sheets.{number_of, exported, length_of, sheet_over, Imported, other_name, named, judged, import_into, size_of, bytes_over, Export, Import}
 use Rattle.sheet.specs.Sheets.Imported.{taken, refused_by, refused_at}
 use Rattle.sheet.specs.Steps.{columns_into, Judged}
-use Rattle.sheet.specs.declared.Reply.{Reply}
-use Rattle.sheet.specs.declared.Reply.TheVariants.{Done}
 use Rattle.sheet.proofs.Back.{only_sheets}
 use Rattle.sheet.proofs.Columns.{entries_of_lem, rows_few}
 use Rattle.sheet.proofs.Gathering.{length_heading}
 use Rattle.sheet.proofs.Making.{below_numbers}
 use Rattle.sheet.proofs.Numbers.{export_answer, import_answer, judge_answer}
 use Rattle.sheet.proofs.ThereAndBack.{written, held}
+use Rattle.sheet.specs.Replies.{Reply}
 
 -- ---- export
 
@@ -55,7 +55,7 @@ module _ {p : Terms} {s : List ℕ} {n : ℕ} {before after : List ℕ} {reply :
       by (accepted es) is c = absurd (d (ap number_of is))
       by (refused x) is c = c
 
-  pub export_stores : {m : ℕ} → reply ≡ Done m → Stores (Sound p s n) sheet_text m 65536 before after
+  pub export_stores : {m : ℕ} → reply ≡ Ok m → Stores (Sound p s n) sheet_text m 65536 before after
   unfolding exported
   export_stores {m} e =
       let w = written p s n (length before) m (sym e ∙ export_answer h) in
@@ -78,7 +78,7 @@ module _ {p : Terms} {text before after : List ℕ} {reply : Reply} (h : Import 
   import_keeps d = kept (import_into p text (length before)) (import_answer h) h.contents d
 
   -- the telegram whose sheet the text is
-  pub import_stores : {n : ℕ} → reply ≡ Done n
+  pub import_stores : {n : ℕ} → reply ≡ Ok n
       → Stores (λ es. Telegram p es × (text ≡ sheet_text es) × (n ≡ bit_count es)) (λ es. bytes_of (bits es)) (bytes_for n) 104 before after
   import_stores {n} e =
       let w = held p text (length before) n (sym e ∙ import_answer h) in
@@ -102,7 +102,7 @@ module _ {ks vs before after : List ℕ} {reply : Reply} (h : Judged ks vs befor
     Left = Stores (Named ks vs n) (λ es. bytes_of (bits es)) (bytes_for n) 104 before after
 
     by_name : 104 ≤ length before → (es : List Entry) → write paper vs ≡ accepted es → (o : Option ℕ) → other_name 0 ks (numbers es) ≡ o
-        → Done n ≡ size_of (named o es) → after ≡ bytes_over (named o es) before → Left
+        → Ok n ≡ size_of (named o es) → after ≡ bytes_over (named o es) before → Left
     by_name l es w none q z c =
         let size : n ≡ bit_count es = cc in
         let t = write_is paper vs es w in
@@ -110,16 +110,16 @@ module _ {ks vs before after : List ℕ} {reply : Reply} (h : Judged ks vs befor
         (few_bytes paper es t.0 n size) l c
     by_name l es w (some k) q z c = let i : ◌≡◌ {A = ℕ} 0 1 = cc in absurd (omega arith)
 
-    by_result : 104 ≤ length before → (r : Result) → write paper vs ≡ r → Done n ≡ size_of (judged ks r) → after ≡ bytes_over (judged ks r) before → Left
+    by_result : 104 ≤ length before → (r : Result) → write paper vs ≡ r → Ok n ≡ size_of (judged ks r) → after ≡ bytes_over (judged ks r) before → Left
     by_result l (accepted es) w z c = by_name l es w (other_name 0 ks (numbers es)) refl z c
     by_result l (refused x) w z c = let i : ◌≡◌ {A = ℕ} 0 1 = cc in absurd (omega arith)
 
     by_room : (b : Bool) → leb 104 (length before) ≡ b
-        → Done n ≡ size_of (cond b (judged ks (write paper vs)) (refused_by (early Room)))
+        → Ok n ≡ size_of (cond b (judged ks (write paper vs)) (refused_by (early Room)))
         → after ≡ bytes_over (cond b (judged ks (write paper vs)) (refused_by (early Room))) before → Left
     by_room true q z c = by_result (leb-true 104 (length before) q) (write paper vs) refl z c
     by_room false q z c = let i : ◌≡◌ {A = ℕ} 0 1 = cc in absurd (omega arith)
 
-  pub judge_stores : {n : ℕ} → reply ≡ Done n → Stores (Named ks vs n) (λ es. bytes_of (bits es)) (bytes_for n) 104 before after
+  pub judge_stores : {n : ℕ} → reply ≡ Ok n → Stores (Named ks vs n) (λ es. bytes_of (bits es)) (bytes_for n) 104 before after
   unfolding columns_into
   judge_stores {n} e = by_room n (leb 104 (length before)) refl (sym e ∙ judge_answer h) h.contents

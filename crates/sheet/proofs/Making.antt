@@ -1,4 +1,5 @@
 -- What export answers and leaves, by the tests that it makes. Assumes nothing.
+use Rattle.std.specs.Prelude.{Ok, Err}
 use mathlib.Core.Path.{◌≡◌, sym, ap, ◌∙◌, subst}
 use mathlib.Core.List.{List, [], ◌∷◌, ◌++◌}
 use Prim.Native.Nat.{ℕ, ◌≤◌, ◌<◌}
@@ -7,12 +8,10 @@ use lib.ListN.{length, take, drop}
 use lib.Seq.{take_at}
 use Rattle.bits.specs.Bits.{Below}
 use Rattle.format.specs.Rules.{paper}
-use Rattle.format.specs.Telegrams.{Entry, Result, Telegram, all, values, write}
+use Rattle.format.specs.Telegrams.{Entry, Result, Telegram, all, bit_count, values, write}
 use Rattle.format.specs.Telegrams.Result.{accepted}
 use Rattle.format.specs.declared.Kind.TheVariants.{Room}
 use Rattle.format.specs.declared.Refusal.{Refusal}
-use Rattle.format.specs.declared.Answer.{Answer}
-use Rattle.format.specs.declared.Answer.TheVariants.{Accepted, Refused}
 use Rattle.laws.proofs.Demand2.{writes}
 use Rattle.laws.proofs.Listed.{AllKnown, telegram_listed, known_number}
 use Rattle.states.specs.Labels.{numbers, numbers_in, Label}
@@ -26,11 +25,13 @@ use Rattle.pieces.proofs.Starts.{grown_none, grows}
 use Rattle.sheet.specs.Rows.{heading, row_text, sheet_text}
 use Rattle.sheet.specs.Sheets.{in_numbers, exported, length_of, sheet_over, Export}
 use Rattle.sheet.specs.Steps.{entries_of, Columns, RowsPut, Listing, Wrote}
-use Rattle.sheet.specs.declared.Reply.{Reply}
-use Rattle.sheet.specs.declared.Reply.TheVariants as reply
 use Rattle.sheet.proofs.Columns.{entries_of_lem}
 use Rattle.sheet.proofs.Gathering.{length_heading}
-use Rattle.sheet.proofs.Judgement.{named_as}
+use Rattle.states.specs.Writer.{size_of}
+use Rattle.sheet.proofs.Judgement.{label_answers, named_as}
+use Rattle.format.specs.Refusals.{Answer}
+use Rattle.sheet.specs.declared.SheetError.TheVariants.{Refused}
+use Rattle.sheet.specs.Replies.{Reply}
 
 -- ---- a telegram's list
 
@@ -52,6 +53,9 @@ module _ {vs text : List ℕ} (l : Listing vs text) where
   few_listed = rw l.same (few_values paper l.telegram)
 
   module _ {due after : List ℕ} {a : Answer} (m : Label paper vs due a after) (h : 830 ≤ length due) where
+    pub labels_listed : a ≡ Ok (bit_count l.entries)
+    labels_listed = label_answers m h ∙ ap size_of (ap (write paper) l.same ∙ writes paper l.telegram)
+
     named : take (length vs) after ≡ numbers l.entries
     named = named_as m h l.entries (ap (write paper) l.same ∙ writes paper l.telegram)
 
@@ -77,18 +81,18 @@ module _ {vs text : List ℕ} (l : Listing vs text) where
         (r text heading first (rw length_heading (omega (arith, few, l.room))))
 
     pub wrote : {head end : ℕ} {out final : List ℕ} → Appended text 0 heading head out → RowsPut (take (length vs) after) vs out head end final
-        → Wrote vs text (reply.Done end) final
+        → Wrote vs text (Ok end) final
     wrote {head} {end} {out} {final} p r =
         let g = grown p r in
         record {
-          answers = λ es t e. ap reply.Done (g.here ∙ ap (λ (x : List Entry). length (sheet_text x)) (one_telegram l.telegram t (sym l.same ∙ e)));
+          answers = λ es t e. ap Ok (g.here ∙ ap (λ (x : List Entry). length (sheet_text x)) (one_telegram l.telegram t (sym l.same ∙ e)));
           contents = λ es t e. g.is ∙ ap (λ (x : List Entry). sheet_over (accepted x) text) (one_telegram l.telegram t (sym l.same ∙ e));
         }
 
 -- ---- export
 
 module _ (s : List ℕ) (n : ℕ) (before : List ℕ) where
-  pub exports_roomless : length before < 65536 → Export paper s n before (reply.Refused (early Room)) before
+  pub exports_roomless : length before < 65536 → Export paper s n before (Err (Refused (early Room))) before
   unfolding exported
   exports_roomless h = let e = without_room 65536 (length before) (checked paper s n) h in record { answers = rw e; contents = rw e }
 
@@ -104,12 +108,12 @@ module _ (s : List ℕ) (n : ℕ) (before : List ℕ) where
     read_answers : a ≡ answer_of (checked paper s n)
     read_answers = read_answer r ∙ ap answer_of read_into_lem
 
-    pub exports_refused : {x : Refusal} → a ≡ Refused x → 65536 ≤ length before → Export paper s n before (reply.Refused x) before
+    pub exports_refused : {x : Refusal} → a ≡ Err x → 65536 ≤ length before → Export paper s n before (Err (Refused x)) before
     exports_refused {x} q h =
         let e = was_refused (λ es. length (values es)) (checked paper s n) a x read_answers q in
         record { answers = rw (into h, e); contents = rw (into h, e) }
 
-    module _ {count : ℕ} (q : a ≡ Accepted count) where
+    module _ {count : ℕ} (q : a ≡ Ok count) where
       accepted_as : AcceptedAs (λ es. length (values es)) (checked paper s n) count
       accepted_as = was_accepted (λ es. length (values es)) (checked paper s n) a count read_answers q
 

@@ -3,7 +3,7 @@
 use mathlib.Core.Path.{◌≡◌, refl, sym, ap, ◌∙◌, subst}
 use mathlib.Core.Bool.{Bool, true, false}
 use mathlib.Core.List.{List, map}
-use Prim.Native.Nat.{ℕ, suc, ◌+◌, ◌-◌, ◌<◌, ◌≤◌}
+use Prim.Native.Nat.{ℕ, suc, min, ◌+◌, ◌-◌, ◌<◌, ◌≤◌}
 use native.Mathlib.Nat.{lt_of_not-le}
 use native.Mathlib.Numerals.{add-one}
 use native.Mathlib.Decide.{dec_le}
@@ -124,3 +124,29 @@ own_part k h =
 pub part : {ls ss : List ℕ} → Tables ls ss → (k : ℕ) → k < 72 → Part ls ss k
 part {ls} {ss} t k h =
     subst (λ (l : List ℕ). Part l ss k) (sym t.texts) (subst (λ (s : List ℕ). Part labels s k) (sym t.begin) (own_part k h))
+
+-- the label that is found for any number: one past the last field is taken as the end mark's
+last_field : (k : ℕ) → field_of (min k 71) ≡ field_of k
+unfolding fields
+last_field k = by (dec_le 72 k)
+  where
+    by : Dec (72 ≤ k) → field_of (min k 71) ≡ field_of k
+    by (yes h) =
+        let last : min k 71 ≡ 71 = omega arith in
+        ap field_of last ∙ sym (get_or-eq_default fields END {n = k} (rw length_fields h))
+    by (no h) = let less = lt_of_not-le h in let own : min k 71 ≡ k = omega arith in ap field_of own
+
+-- of the label of the field that k stands for, in what is lent, where j is that field's number
+pub record Cut (ls ss : List ℕ) (k j : ℕ) : Type 0 where
+  pub order : get_or ss j 0 ≤ get_or ss (j + 1) 0
+  pub inside : get_or ss (j + 1) 0 ≤ 886
+  pub is : take (get_or ss (j + 1) 0 - get_or ss j 0) (drop (get_or ss j 0) ls) ≡ label_text (field_of k)
+
+pub cut : {ls ss : List ℕ} → Tables ls ss → (k j : ℕ) → j ≡ min k 71 → Cut ls ss k j
+cut {ls} {ss} t k j e =
+    let p = part t j (omega arith) in
+    record {
+      order = p.order;
+      inside = subst (λ (n : ℕ). get_or ss (j + 1) 0 ≤ n) (ap length t.texts ∙ length_labels) p.inside;
+      is = p.is ∙ ap (λ (n : ℕ). label_text (field_of n)) e ∙ ap label_text (last_field k);
+    }

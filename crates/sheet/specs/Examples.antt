@@ -1,5 +1,5 @@
 -- Worked examples of the definitions, each computed by the checker. Assumes nothing.
-use Rattle.std.specs.Prelude.{◌≡◌, refl, List, [], ◌∷◌, ◌++◌, ℕ}
+use Rattle.std.specs.Prelude.{◌≡◌, refl, List, [], ◌∷◌, ◌++◌, ℕ, Ok, Err}
 use Rattle.std.proofs.Math.Option.{some, none}
 use Rattle.pieces.specs.Pieces.{begins}
 use Rattle.pieces.specs.Numbers.{digits_of, places_of, decimal_in, digits_from, sixteen_in, places_from}
@@ -13,8 +13,8 @@ use Rattle.sheet.specs.Rows.{text_of, crlf, heading, label_text, row_text}
 use Rattle.sheet.specs.Reading.{row, row_in, rows_in, sheet_in}
 use Rattle.sheet.specs.Reading.Rows.{rows, bad}
 use Rattle.sheet.specs.Sheets.{imported, size_of}
-use Rattle.sheet.specs.declared.Reply.{Reply}
-use Rattle.sheet.specs.declared.Reply.TheVariants as reply
+use Rattle.sheet.specs.declared.SheetError.TheVariants.{Refused, Row}
+use Rattle.sheet.specs.Replies.{Reply}
 
 -- `Q_DIR,2,1` and `NID_RADIO,64,08614970020002FF`
 rows_written : row_text (record { field = Q_DIR; value = 1 }) ∷ row_text (record { field = NID_RADIO; value = 0x08614970020002FF }) ∷ []
@@ -63,13 +63,13 @@ three : answer (sheet_with (text_of "Q_LINK,1,1") (text_of "M_VERSION,7,17") (te
     ∷ answer (sheet_with (text_of "Q_LINK,1,1") (text_of "M_VERSION,7,16") (text_of "END,8,255"))
     ∷ answer (sheet_with (text_of "Q_UPDOWN,1,1") (text_of "M_VERSION,7,16") (text_of "END,8,255"))
     ∷ []
-    ≡ reply.Row 11 ∷ reply.Refused (record { kind = Header; place = 1 }) ∷ reply.Row 1 ∷ reply.Done 58 ∷ []
+    ≡ Err (Row 11) ∷ Err (Refused (record { kind = Header; place = 1 })) ∷ Err (Row 1) ∷ Ok 58 ∷ []
 unfolding answer
 three = refl
 
 -- the end mark under the name of a packet's identifier, and no row at all
 others : answer (sheet_with (text_of "Q_UPDOWN,1,1") (text_of "M_VERSION,7,16") (text_of "NID_PACKET,8,255")) ∷ answer heading ∷ []
-    ≡ reply.Row 11 ∷ reply.Refused (record { kind = Ended; place = 0 }) ∷ []
+    ≡ Err (Row 11) ∷ Err (Refused (record { kind = Ended; place = 0 })) ∷ []
 unfolding answer
 others = refl
 
@@ -84,6 +84,6 @@ pairs : answer (sheet_with (text_of "Q_LINK,1,1") (text_of "M_VERSION,7,16") (st
     ∷ answer (sheet_with (text_of "Q_LINK,1,1") (text_of "M_VERSION,7,16") (stops (text_of "Q_DIR,2,0")))
     ∷ answer (sheet_with (text_of "Q_UPDOWN,1,1") (text_of "M_VERSION,7,16") (stops (text_of "Q_DIR,2,0")))
     ∷ []
-    ≡ reply.Refused (record { kind = Repeated; place = 82 }) ∷ reply.Row 1 ∷ reply.Done 106 ∷ []
+    ≡ Err (Refused (record { kind = Repeated; place = 82 })) ∷ Err (Row 1) ∷ Ok 106 ∷ []
 unfolding answer
 pairs = refl

@@ -1,4 +1,5 @@
 -- Data sheets, in reading order: what a sheet is, what a text is as one, and what export and import promise.
+pub mod Replies
 pub mod Rows
 pub mod Reading
 pub mod Sheets

@@ -1,5 +1,5 @@
 -- docs/RULES.md, "Data sheets": what export and import answer, and what they leave in what is lent. Definitions alone.
-use Rattle.std.specs.Prelude.{◌≡◌, cond, List, [], ◌∷◌, ◌++◌, ℕ, suc, eqb, leb, length, drop}
+use Rattle.std.specs.Prelude.{◌≡◌, cond, List, [], ◌∷◌, ◌++◌, ℕ, suc, eqb, leb, length, drop, Ok, Err}
 use Rattle.std.proofs.Math.Option.{Option, some, none}
 use Rattle.format.specs.Refusals as refusals
 use Rattle.format.specs.Rules.{Terms}
@@ -13,22 +13,22 @@ use Rattle.states.specs.Writer as writer
 use Rattle.sheet.specs.Rows.{sheet_text}
 use Rattle.sheet.specs.Reading.{Rows, sheet_in}
 use Rattle.sheet.specs.Reading.Rows.{rows, bad}
-use Rattle.sheet.specs.declared.Reply.{Reply}
-use Rattle.sheet.specs.declared.Reply.TheVariants.{Done, Refused, Row}
+use Rattle.sheet.specs.declared.SheetError.TheVariants.{Refused, Row}
+use Rattle.sheet.specs.Replies.{Reply}
 
 -- ---- a reply in the numbers of docs/RULES.md
 
 -- the number of what is refused, 0 where nothing is
 abbrev pub number_of : Reply → ℕ
-number_of (Done n) = 0
-number_of (Refused r) = refusals.number_of r.kind
-number_of (Row k) = 20
+number_of (Ok n) = 0
+number_of (Err (Refused r)) = refusals.number_of r.kind
+number_of (Err (Row k)) = 20
 
 -- what comes with it: the size of what was made, the place, or the row
 abbrev pub value_of : Reply → ℕ
-value_of (Done n) = n
-value_of (Refused r) = r.place
-value_of (Row k) = k
+value_of (Ok n) = n
+value_of (Err (Refused r)) = r.place
+value_of (Err (Row k)) = k
 
 -- "When an answer is an enum, a definition specifies [the rules'] number and values for each of its cases": a reply is known by them
 -- (`reply-is` in proofs/Numbers.antt)
@@ -42,8 +42,8 @@ unfoldable pub exported : Terms → List ℕ → ℕ → ℕ → Result
 exported p s n room = roomed 65536 room (checked p s n)
 
 abbrev pub length_of : Result → Reply
-length_of (accepted es) = Done (length (sheet_text es))
-length_of (refused r) = Refused r
+length_of (accepted es) = Ok (length (sheet_text es))
+length_of (refused r) = Err (Refused r)
 
 abbrev pub sheet_over : Result → List ℕ → List ℕ
 sheet_over (accepted es) before = sheet_text es ++ drop (length (sheet_text es)) before
@@ -89,9 +89,9 @@ unfoldable pub import_into : Terms → List ℕ → ℕ → Imported
 import_into p text room = cond (leb bytes_needed room) (imported p text) (refused_by (early Room))
 
 abbrev pub size_of : Imported → Reply
-size_of (taken es) = Done (bit_count es)
-size_of (refused_by r) = Refused r
-size_of (refused_at k) = Row k
+size_of (taken es) = Ok (bit_count es)
+size_of (refused_by r) = Err (Refused r)
+size_of (refused_at k) = Err (Row k)
 
 abbrev pub bytes_over : Imported → List ℕ → List ℕ
 bytes_over (taken es) before = writer.bytes_over (accepted es) before

@@ -1,5 +1,5 @@
 -- What the functions of export and import ask and promise. Definitions alone.
-use Rattle.std.specs.Prelude.{◌≡◌, true, cond, List, [], ◌∷◌, ◌++◌, ℕ, ◌+◌, ◌*◌, ◌≤◌, ◌<◌, eqb, leb, ltb, length, take}
+use Rattle.std.specs.Prelude.{◌≡◌, true, cond, List, [], ◌∷◌, ◌++◌, ℕ, ◌+◌, ◌*◌, ◌≤◌, ◌<◌, leb, length, take, Some, None, Ok, Err}
 use Rattle.std.proofs.Math.Option.{Option, some, none}
 use Rattle.bits.specs.Bits.{Below}
 use Rattle.format.specs.Fields.{fields}
@@ -14,11 +14,8 @@ use Rattle.sheet.specs.Reading.{Row, Rows, label_in, sheet_in}
 use Rattle.sheet.specs.Reading.Rows.{rows, bad}
 use Rattle.sheet.specs.Sheets.{in_numbers, Imported, length_of, sheet_over, other_name, judged, size_of, bytes_over}
 use Rattle.sheet.specs.Sheets.Imported.{refused_by}
-use Rattle.sheet.specs.declared.Reply.{Reply}
-use Rattle.sheet.specs.declared.Row.TheVariants.{Is, Bad}
-use Rattle.sheet.specs.declared.Rows.TheVariants as counted
-use Rattle.sheet.specs.declared.Row as row
-use Rattle.sheet.specs.declared.Rows as reading
+use Rattle.sheet.specs.Replies.{Reply}
+use Rattle.std.specs.Prelude as code
 
 -- ---- one row
 
@@ -28,15 +25,24 @@ pub record Tables (ls ss : List ℕ) : Type 0 where
   pub begin : ss ≡ starts
 
 -- the answer of what reads a row at a position
-abbrev pub row_at : ℕ → Option Row → row.Row
-row_at at none = Bad
-row_at at (some r) = Is r.number r.value (at + r.count)
+abbrev pub row_at : ℕ → Option Row → code.Option (ℕ × ℕ × ℕ)
+row_at at none = None
+row_at at (some r) = Some (r.number, r.value, at + r.count)
 
--- the number k of the field whose label a text begins with, 72 if there is none
-pub record Labelled (text : List ℕ) (k : ℕ) : Type 0 where
-  pub few : k ≤ 72
-  pub is : label_in 0 fields text ≡ cond (ltb k 72) (some k) none
-  pub stands : k < 72 → begins (label_text (field_of k)) text ≡ true
+-- what the code found, in the words of the definitions
+abbrev pub found : code.Option ℕ → Option ℕ
+found None = none
+found (Some k) = some k
+
+-- a field that is known by its number, whose label stands at the front of a text
+abbrev pub Standing : List ℕ → code.Option ℕ → Type 0
+Standing text None = Unit
+Standing text (Some k) = (k < 72) × (begins (label_text (field_of k)) text ≡ true)
+
+-- the number of the field whose label a text begins with, if there is one
+pub record Labelled (text : List ℕ) (field : code.Option ℕ) : Type 0 where
+  pub is : label_in 0 fields text ≡ found field
+  pub stands : Standing text field
 
 -- a row is put behind any text so far, if there is room for the longest
 abbrev pub RowPut : ℕ → ℕ → List ℕ → ℕ → ℕ → List ℕ → Type 0
@@ -79,15 +85,15 @@ pub record Collecting (ks vs : List ℕ) : Type 0 where
   pub values : length vs ≡ 830
 
 -- the rows that were read, in front of the two lists
-abbrev pub rows_read : reading.Rows → List ℕ → List ℕ → Rows
-rows_read (counted.Read n) ks vs = rows (entries_of (take n ks) (take n vs))
-rows_read (counted.Bad k) ks vs = bad k
+abbrev pub rows_read : code.Result ℕ ℕ → List ℕ → List ℕ → Rows
+rows_read (Ok n) ks vs = rows (entries_of (take n ks) (take n vs))
+rows_read (Err k) ks vs = bad k
 
-abbrev pub FewRows : reading.Rows → List ℕ → Type 0
-FewRows (counted.Read n) ks = (n ≤ 830) × Below 72 (take n ks)
-FewRows (counted.Bad k) ks = Unit
+abbrev pub FewRows : code.Result ℕ ℕ → List ℕ → Type 0
+FewRows (Ok n) ks = (n ≤ 830) × Below 72 (take n ks)
+FewRows (Err k) ks = Unit
 
-pub record Collected (text : List ℕ) (r : reading.Rows) (ks vs : List ℕ) : Type 0 where
+pub record Collected (text : List ℕ) (r : code.Result ℕ ℕ) (ks vs : List ℕ) : Type 0 where
   pub is : sheet_in text ≡ rows_read r ks vs
   pub few : FewRows r ks
 
@@ -100,6 +106,6 @@ pub record Judged (ks vs before : List ℕ) (reply : Reply) (after : List ℕ) :
   pub answers : in_numbers reply ≡ in_numbers (size_of (columns_into paper ks vs (length before)))
   pub contents : after ≡ bytes_over (columns_into paper ks vs (length before)) before
 
--- the first row with another number than is due, 0 if there is none
-abbrev pub Other : List ℕ → List ℕ → ℕ → Type 0
-Other ks due r = other_name 0 ks due ≡ cond (eqb r 0) none (some r)
+-- the first row with another number than is due, if there is one
+abbrev pub Other : List ℕ → List ℕ → code.Option ℕ → Type 0
+Other ks due row = other_name 0 ks due ≡ found row

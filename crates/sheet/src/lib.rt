@@ -3,52 +3,43 @@
 
 ghost use Rattle.std.specs.Prelude.{◌≡◌};
 ghost use Rattle.sheet.specs.Sheets.{number_of, value_of};
+ghost use Rattle.sheet.specs.declared.SheetError.TheVariants.{Refused};
 
 use format::Refusal;
 
-// What export and import answer: done, with the length of the sheet or the n of the telegram; refused by the library; or refused at a row.
+// Why there is no sheet, or no telegram of one: refused by the library, or at a row.
 #[derive(Clone, Copy)]
-pub enum Reply {
-    Done(usize),
+pub enum SheetError {
     Refused(Refusal),
     Row(usize),
 }
 
-// A row of a text: its field by number, its value and where the row ends; or that there is none.
-#[derive(Clone, Copy)]
-pub enum Row {
-    Is(usize, u64, usize),
-    Bad,
-}
+impl From<Refusal> for SheetError {
+    ghost from_gives = { λ r e. e ≡ Refused r };
 
-// How many rows a text has, or the first that is none.
-#[derive(Clone, Copy)]
-pub enum Rows {
-    Read(usize),
-    Bad(usize),
+    fn from(r: Refusal) -> Self {
+        SheetError::Refused(r)
+    }
 }
 
 // The paper's number of a reply: 0 where nothing is refused.
-pub fn number(reply: Reply) -> u64
+pub fn number(reply: Result<usize, SheetError>) -> u64
     ensures { result ≡ number_of reply }
 {
     match reply {
-        Reply::Done(_) => 0,
-        Reply::Refused(r) => {
-            let kind = r.kind;
-            refusals::number(kind)
-        }
-        Reply::Row(_) => 20,
+        Ok(_) => 0,
+        Err(SheetError::Refused(r)) => refusals::number(r.kind),
+        Err(SheetError::Row(_)) => 20,
     }
 }
 
 // What comes with it: the size of what was made, the place, or the row.
-pub fn value(reply: Reply) -> usize
+pub fn value(reply: Result<usize, SheetError>) -> usize
     ensures { result ≡ value_of reply }
 {
     match reply {
-        Reply::Done(n) => n,
-        Reply::Refused(r) => r.place,
-        Reply::Row(k) => k,
+        Ok(n) => n,
+        Err(SheetError::Refused(r)) => r.place,
+        Err(SheetError::Row(k)) => k,
     }
 }

@@ -1,25 +1,16 @@
-// One row of a sheet, put. The labels of all rows and where they begin are taken into locals once, and lent.
+// One row of a sheet, put.
 ghost use Rattle.std.specs.Prelude.{◌<◌};
-ghost use Rattle.sheet.specs.Steps.{Tables, RowPut};
+ghost use Rattle.sheet.specs.Steps.{RowPut};
 
 use pieces::append;
-use sheet_rows::put_value;
+use sheet_rows::{RowLabels, put_value};
 
 // Puts the row of field k with a value into out from at on, and gives where it ends.
-pub(crate) fn put_row(
-    labels: &[u8],
-    starts: &[u16],
-    out: &mut [u8],
-    at: usize,
-    k: usize,
-    v: u64,
-) -> usize
-    requires { Tables labels.now starts.now × (k < 72) }
+pub(crate) fn put_row(labels: &RowLabels, out: &mut [u8], at: usize, k: usize, v: u64) -> usize
+    requires { k < 72 }
     ensures { RowPut k v out.old at result out.new }
 {
-    let a = starts[k] as usize;
-    let e = starts[k + 1] as usize;
-    let label = append(out, at, &labels[a..e]);
+    let label = append(out, at, labels.label(k));
     let value = put_value(out, label, k, v);
     append(out, value, b"\r\n")
 }

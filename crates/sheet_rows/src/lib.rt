@@ -4,8 +4,10 @@
 ghost use Rattle.std.specs.Prelude.{◌≡◌};
 ghost use Rattle.sheet.specs.Rows.{labels, starts};
 
+mod table;
 mod value;
 
+pub use table::RowLabels;
 pub use value::{put_value, value_at};
 
 // What each row begins with, for all 72 fields by number, as one text, and where each begins in it. specs/Fields.antt of the crate format

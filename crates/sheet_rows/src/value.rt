@@ -6,14 +6,13 @@ ghost use Rattle.sheet.specs.Reading.{value_in};
 ghost use Rattle.sheet.specs.Rows.{field_of, value_text};
 
 use parse::{decimal_at, places_at};
-use pieces::Number;
 use spell::{append_decimal, append_places};
 
 // NID_RADIO, whose value is written as sixteen places.
 const RADIO: usize = 35;
 
 // The value of field k that stands in a text from at on.
-pub fn value_at(text: &[u8], at: usize, k: usize) -> Number
+pub fn value_at(text: &[u8], at: usize, k: usize) -> Option<(u64, usize)>
     ensures { result ≡ read_at at (value_in (field_of k) (drop at text.now)) }
 {
     if k == RADIO {

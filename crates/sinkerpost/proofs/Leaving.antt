@@ -1,5 +1,6 @@
 -- What C's answer says of what is lent: 0 that the normal form stands in front of what was there, and any other number that nothing has changed.
 -- Of the check, which is lent no output, what was accepted or refused. For any terms. Assumes nothing.
+use Rattle.std.specs.Prelude.{Err}
 use mathlib.Core.List.{List}
 use mathlib.Core.Logic.{◌≢◌}
 use mathlib.Core.Path.{◌≡◌, refl, sym, ◌∙◌}
@@ -12,7 +13,6 @@ use Rattle.format.specs.Refusals.{code_of}
 use Rattle.format.specs.Rules.{Terms}
 use Rattle.format.specs.Telegrams.{Entry, Result, bits}
 use Rattle.format.specs.Telegrams.Result.{accepted, refused}
-use Rattle.format.specs.declared.Answer.TheVariants.{Refused}
 use Rattle.format.specs.declared.Refusal.{Refusal}
 use Rattle.format.proofs.Numbers.{number_in}
 use Rattle.states.specs.Reader.{checked, answer_of}
@@ -32,10 +32,10 @@ module _ (p : Terms) (s : List ℕ) (n : ℕ) (answer : ℕ) (h : answer ≡ che
       by (accepted es) e c = (es, ((check_judges p s n).accepts es).0 e)
       by (refused r) e c = let i = number_in r.kind in absurd (omega arith)
 
-  pub check_refuses : answer ≢ 0 → (r : Refusal) × Unsound p s n r × (answer ≡ code_of (Refused r))
+  pub check_refuses : answer ≢ 0 → (r : Refusal) × Unsound p s n r × (answer ≡ code_of (Err r))
   check_refuses d = by (checked p s n) refl h
     where
-      by : (x : Result) → checked p s n ≡ x → answer ≡ code_of (answer_of x) → (r : Refusal) × Unsound p s n r × (answer ≡ code_of (Refused r))
+      by : (x : Result) → checked p s n ≡ x → answer ≡ code_of (answer_of x) → (r : Refusal) × Unsound p s n r × (answer ≡ code_of (Err r))
       by (accepted es) e c = absurd (d c)
       by (refused r) e c = (r, ((check_judges p s n).refuses r).0 e, c)
 

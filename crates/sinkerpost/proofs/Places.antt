@@ -9,11 +9,10 @@ use lib.ListN.{length, take}
 use lib.Seq.{length-take-le}
 use Rattle.bits.specs.Bits.{bits_of}
 use Rattle.bits.proofs.Bytes.{length_bits_of, below_bits_of, below_take}
-use Rattle.format.specs.Refusals.{in_numbers}
+use Rattle.format.specs.Refusals.{in_numbers, Answer}
 use Rattle.format.specs.Rules.{paper}
 use Rattle.format.specs.Telegrams.{Entry, Result, values, bit_count, read}
 use Rattle.format.specs.Telegrams.Result.{accepted, refused}
-use Rattle.format.specs.declared.Answer.{Answer}
 use Rattle.format.specs.declared.Kind.TheVariants.{Room, Size, Padding}
 use Rattle.format.proofs.Numbers.{answer_is}
 use Rattle.laws.proofs.Bounds.{read_placed}

@@ -1,9 +1,7 @@
 -- docs/RULES.md, "Telegrams": what checking and normalising answer where they are called from C. Definitions alone.
-use Rattle.std.specs.Prelude.{◌≡◌, List, ℕ, ◌≤◌, length}
-use Rattle.format.specs.Refusals.{code_of}
+use Rattle.std.specs.Prelude.{◌≡◌, List, ℕ, ◌≤◌, length, Ok, Err}
+use Rattle.format.specs.Refusals.{code_of, Answer}
 use Rattle.format.specs.Rules.{Terms}
-use Rattle.format.specs.declared.Answer.{Answer}
-use Rattle.format.specs.declared.Answer.TheVariants.{Accepted, Refused}
 use Rattle.states.specs.Reader.{checked, answer_of}
 use Rattle.states.specs.Writer.{size_of, bytes_over}
 use Rattle.states.specs.Normaliser.{normalise_into}
@@ -19,5 +17,5 @@ pub record Normalise (p : Terms) (s : List ℕ) (n : ℕ) (before : List ℕ) (a
 
 -- a place is a bit of a telegram, or the bit after its last
 abbrev pub Placed : Answer → Type 0
-Placed (Accepted n) = Unit
-Placed (Refused r) = r.place ≤ 830
+Placed (Ok n) = Unit
+Placed (Err r) = r.place ≤ 830

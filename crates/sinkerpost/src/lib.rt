@@ -6,7 +6,7 @@ ghost use Rattle.format.specs.Rules.{paper};
 ghost use Rattle.format.specs.Refusals.{code_of};
 ghost use Rattle.sinkerpost.specs.Codes.{check_code, Normalise, Placed};
 
-use format::Answer;
+use format::Refusal;
 
 // Whether the bytes and n are a telegram: 0, or its refusal.
 pub fn sinkerpost_check(bytes: &[u8], n: u64) -> u64
@@ -22,16 +22,13 @@ pub fn sinkerpost_normalise(bytes: &[u8], n: u64, out: &mut [u8]) -> u64
     code(telegram::normalise(bytes, n as usize, out))
 }
 
-// 0, or 1,024 times the refusal number plus the place.
-fn code(a: Answer) -> u64
+// 0, or 1,024 times the refusal number plus the place: one number, as the C interface has it.
+fn code(a: Result<usize, Refusal>) -> u64
     requires { Placed a }
     ensures { result ≡ code_of a }
 {
     match a {
-        Answer::Accepted(_) => 0,
-        Answer::Refused(r) => {
-            let kind = r.kind;
-            1024 * refusals::number(kind) + r.place as u64
-        }
+        Ok(_) => 0,
+        Err(r) => 1024 * refusals::number(r.kind) + r.place as u64,
     }
 }

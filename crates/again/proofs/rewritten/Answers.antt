@@ -1,4 +1,5 @@
 -- `again::rewritten` meets its contract: the values that were read are written as the bytes that they were read from. Assumes nothing.
+use Rattle.std.proofs.lemmas.Result.{err_from_is_err_and}
 use mathlib.Core.Path.{sym}
 use native.Mathlib.Omega.{arith}
 use lib.Seq.{length-take-le}
@@ -10,17 +11,18 @@ use Rattle.again.proofs.rewritten.Goals as goal
 pub returns-then-out-lt104 : goal.returns-then-out-lt104
 returns-then-out-lt104 c =
     let a = c.args in
-    no_room_to_write paper a.s.now a.n a.run.now a.out.now (omega (arith, c.if-out-lt104.true))
+    rw c.at_once.ensures (no_room_to_write paper a.s.now a.n a.run.now a.out.now (omega (arith, c.if-out-lt104.true)))
 
-pub returns-in_default : goal.returns-in_default
-returns-in_default c =
+pub returns-in_err-count : goal.returns-in_err-count
+returns-in_err-count c =
     let a = c.args in
-    read_refused paper a.s.now a.n a.run.now a.out.now _ (omega arith) c.read-a.ensures c.in_default.is
+    let p = err_from_is_err_and c.from_residual.result c.from_residual.ensures.1 in
+    rw (p.1, p.2, ← c.in_err-count.was) (read_refused paper a.s.now a.n a.run.now a.out.now _ (omega arith) c.read.ensures c.in_err-count.was)
 
 pub returns : goal.returns
 returns c =
     let a = c.args in
-    rewrites paper a.s.now a.n a.run.now a.out.now _ (omega arith) c.read-a.ensures c.in-Accepted.is
+    rewrites paper a.s.now a.n a.run.now a.out.now _ (omega arith) c.read.ensures c.in_ok-count.was
     (below_known 256 a.s.now (λ i. (c.type_inv.s i).fits))
     c.write.ensures
 
@@ -29,9 +31,9 @@ returns c =
 pub slice_bounds-write-end : goal.slice_bounds-write-end
 slice_bounds-write-end c =
     let a = c.args in
-    lent paper a.s.now a.n a.run.now a.out.now _ (omega arith) c.read-a.ensures c.in-Accepted.is
+    lent paper a.s.now a.n a.run.now a.out.now _ (omega arith) c.read.ensures c.in_ok-count.was
 
 pub slice_bounds-write-end-2 : goal.slice_bounds-write-end-2
 slice_bounds-write-end-2 c =
     let a = c.args in
-    sym (length-take-le _ _ (lent paper a.s.now a.n a.run.now a.out.now _ (omega arith) c.read-a.ensures c.in-Accepted.is))
+    sym (length-take-le _ _ (lent paper a.s.now a.n a.run.now a.out.now _ (omega arith) c.read.ensures c.in_ok-count.was))

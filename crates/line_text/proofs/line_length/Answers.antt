@@ -1,12 +1,15 @@
 -- `line_text::line_length` meets its contract. Assumes nothing.
+use mathlib.Core.Path.{◌∙◌}
+use native.Mathlib.Omega.{arith}
+use lib.Seq.{length-take-le}
 use Rattle.line_text.proofs.Lines.{line_none, line_ended, line_open}
 use Rattle.line_text.proofs.line_length.Goals as goal
 
-pub returns-then-n-eq0 : goal.returns-then-n-eq0
-returns-then-n-eq0 c = line_none c.args.input.now c.if-n-eq0.true
+pub returns-in-10 : goal.returns-in-10
+returns-in-10 c = length-take-le _ _ (omega arith) ∙ line_ended c.args.input.now (omega arith)
 
-pub returns-then-input-n-eq10 : goal.returns-then-input-n-eq10
-returns-then-input-n-eq10 c = line_ended c.args.input.now c.if-input-n-eq10.true
+pub returns-in_default : goal.returns-in_default
+returns-in_default c = line_none c.args.input.now (omega arith)
 
-pub returns : goal.returns
-returns c = line_open c.args.input.now c.if-input-n-eq10.false
+pub returns-in_default-2 : goal.returns-in_default-2
+returns-in_default-2 c = line_open c.args.input.now (λ e. omega arith)

@@ -1,11 +1,11 @@
--- `printed::from_line` meets its contract: room, one law for each reply, and a reply of a row does not come. Assumes nothing.
+-- `printed::from_line` meets its contract: room, one law for each reply. Assumes nothing.
 use mathlib.Core.Path.{sym}
 use native.Mathlib.Omega.{arith}
 use lib.Seq.{length-take-le}
 use borrow.Author.Rules.{rules}
 use Rattle.line_text.proofs.Lines.{line_few}
 use Rattle.line_text.proofs.Refusals.{refusal_there}
-use Rattle.printed.proofs.Texts.{out_roomless, out_put, out_done, out_refused, out_rowless}
+use Rattle.printed.proofs.Texts.{out_roomless, out_put, out_done, out_failed}
 use Rattle.printed.proofs.from_line.Goals as goal
 
 pub returns-then-out-lt65536 : goal.returns-then-out-lt65536
@@ -16,20 +16,14 @@ slice_bounds-exported-end c =
     let input = c.args.input.now in
     sym (length-take-le c.line_length-n.result input (omega (arith, line_few input, c.line_length-n.ensures)))
 
-pub returns-in-Done : goal.returns-in-Done
-returns-in-Done c =
+pub returns-in-Ok : goal.returns-in-Ok
+returns-in-Ok c =
     out_put c.args.input.now (omega arith)
     (out_done c.args.input.now _ _ c.line_length-n.result c.exported-reply.result c.line_length-n.ensures c.exported-reply.ensures.0 c.exported-reply.ensures.1
-    _ c.in-Done.is)
+    _ c.in-Ok.is)
 
-pub returns-in-Refused : goal.returns-in-Refused
-returns-in-Refused c =
+pub returns-in-Err : goal.returns-in-Err
+returns-in-Err c =
     out_put c.args.input.now (omega arith)
-    (out_refused c.args.input.now _ _ c.line_length-n.result c.exported-reply.result c.line_length-n.ensures c.exported-reply.ensures.0 c.exported-reply.ensures.1
-    _ _ _ c.in-Refused.is (refusal_there _ c.refuse.ensures (search rules)))
-
-pub returns-in-Row : goal.returns-in-Row
-returns-in-Row c =
-    absurd
-    (out_rowless c.args.input.now _ _ c.line_length-n.result c.exported-reply.result c.line_length-n.ensures c.exported-reply.ensures.0 c.exported-reply.ensures.1
-    _ c.in-Row.is)
+    (out_failed c.args.input.now _ _ c.line_length-n.result c.exported-reply.result c.line_length-n.ensures c.exported-reply.ensures.0 c.exported-reply.ensures.1
+    _ _ _ c.in-Err.is (refusal_there _ c.refuse.ensures (search rules)))

@@ -6,34 +6,31 @@ use Rattle.sheet.proofs.Gathering.{gathered_first, gathered_all, too_many, room,
 use Rattle.sheet_in.proofs.collect.Goals as goal
 
 pub loop-at-init : goal.loop-at-init
-loop-at-init c = gathered_first _ _ _ c.requires.1 c.requires.2
+loop-at-init c = gathered_first _ _ _ c.requires.0 c.requires.1
 
 pub shape_of-fields-then-n-eq830 : goal.shape_of-fields-then-n-eq830
-shape_of-fields-then-n-eq830 c = c.loop-at.invariant.fields ∙ sym c.requires.1.fields
+shape_of-fields-then-n-eq830 c = c.loop-at.invariant.fields ∙ sym c.requires.0.fields
 
 pub shape_of-values-then-n-eq830 : goal.shape_of-values-then-n-eq830
-shape_of-values-then-n-eq830 c = c.loop-at.invariant.values ∙ sym c.requires.1.values
+shape_of-values-then-n-eq830 c = c.loop-at.invariant.values ∙ sym c.requires.0.values
 
 pub returns-then-n-eq830 : goal.returns-then-n-eq830
 returns-then-n-eq830 c = too_many c.loop-at.invariant (omega arith) c.if-n-eq830.true
 
-pub row_at-requires : goal.row_at-requires
-row_at-requires c = c.requires.0
-
 pub overflow_add-result : goal.overflow_add-result
 overflow_add-result c = omega (arith, c.loop-at.invariant.few)
 
-pub shape_of-fields-in-Bad : goal.shape_of-fields-in-Bad
-shape_of-fields-in-Bad c = c.loop-at.invariant.fields ∙ sym c.requires.1.fields
+pub shape_of-fields-in_default : goal.shape_of-fields-in_default
+shape_of-fields-in_default c = c.loop-at.invariant.fields ∙ sym c.requires.0.fields
 
-pub shape_of-values-in-Bad : goal.shape_of-values-in-Bad
-shape_of-values-in-Bad c = c.loop-at.invariant.values ∙ sym c.requires.1.values
+pub shape_of-values-in_default : goal.shape_of-values-in_default
+shape_of-values-in_default c = c.loop-at.invariant.values ∙ sym c.requires.0.values
 
-pub returns-in-Bad : goal.returns-in-Bad
-returns-in-Bad c = bad_row c.loop-at.invariant (omega arith) c.if-n-eq830.false c.row_at.ensures c.in-Bad.is
+pub returns-in_default : goal.returns-in_default
+returns-in_default c = bad_row c.loop-at.invariant (omega arith) c.if-n-eq830.false c.row_at.ensures c.in_default.is
 
 pub overflow_cast-fields : goal.overflow_cast-fields
-overflow_cast-fields c = omega (arith, small c.loop-at.invariant (omega arith) c.if-n-eq830.false c.row_at.ensures c.in-Is.is)
+overflow_cast-fields c = omega (arith, small c.loop-at.invariant (omega arith) c.if-n-eq830.false c.row_at.ensures c.in-Some.is)
 
 pub bounds-fields-n : goal.bounds-fields-n
 bounds-fields-n c = omega (arith, room c.loop-at.invariant (omega arith) c.if-n-eq830.false, c.loop-at.invariant.fields)
@@ -51,13 +48,13 @@ pub loop-at-smaller : goal.loop-at-smaller
 loop-at-smaller c = omega (arith, room c.loop-at.invariant (omega arith) c.if-n-eq830.false)
 
 pub loop-at-preserved : goal.loop-at-preserved
-loop-at-preserved c = gathered_on c.loop-at.invariant (omega arith) c.if-n-eq830.false c.row_at.ensures c.in-Is.is
+loop-at-preserved c = gathered_on c.loop-at.invariant (omega arith) c.if-n-eq830.false c.row_at.ensures c.in-Some.is
 
 pub shape_of-fields : goal.shape_of-fields
-shape_of-fields c = c.loop-at.invariant.fields ∙ sym c.requires.1.fields
+shape_of-fields c = c.loop-at.invariant.fields ∙ sym c.requires.0.fields
 
 pub shape_of-values : goal.shape_of-values
-shape_of-values c = c.loop-at.invariant.values ∙ sym c.requires.1.values
+shape_of-values c = c.loop-at.invariant.values ∙ sym c.requires.0.values
 
 pub returns : goal.returns
 returns c = gathered_all c.loop-at.invariant (omega arith)

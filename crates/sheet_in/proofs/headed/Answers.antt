@@ -10,11 +10,7 @@ returns-then-not-begins c = headless _ _ _ (sym c.begins.ensures ∙ c.if-not-be
 
 pub collect-requires : goal.collect-requires
 unfolding heading
-collect-requires c = (
-  record { texts = c.labels-labels.ensures; begin = c.starts-starts.ensures },
-  c.requires,
-  sym c.begins.ensures ∙ c.if-not-begins.false,
-)
+collect-requires c = (c.requires, sym c.begins.ensures ∙ c.if-not-begins.false)
 
 pub returns : goal.returns
 returns c = c.collect.ensures

@@ -1,10 +1,13 @@
 -- `sheet_out::sheet` meets its contract: the heading, and the rows behind it. Assumes nothing.
-use mathlib.Core.Path.{sym}
+use mathlib.Core.Path.{refl, sym}
 use native.Mathlib.Omega.{arith}
 use lib.Seq.{length-take-le}
 use Rattle.sheet.specs.Rows.{heading}
-use Rattle.sheet.proofs.Making.{few_listed, columns, wrote}
+use Rattle.sheet.proofs.Making.{few_listed, labels_listed, columns, wrote}
 use Rattle.sheet_out.proofs.sheet.Goals as goal
+
+pub unwrap-requires : goal.unwrap-requires
+unwrap-requires c = rw (labels_listed c.requires c.label.ensures (omega arith)) refl
 
 pub slice_bounds-fields-end : goal.slice_bounds-fields-end
 slice_bounds-fields-end c = omega (arith, few_listed c.requires)
