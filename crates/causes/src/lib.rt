@@ -6,7 +6,8 @@ ghost use Rattle.group.specs.Groups.{cause_number};
 
 use group::Cause;
 
-// The number of a cause (docs/RULES.md, "Groups").
+// The number of a cause (docs/RULES.md, "Groups"). A match, since `as` takes no enum whose cases hold something; `From` would be a second name for this
+// function, which README gives.
 pub fn number(cause: Cause) -> u64
     ensures { result ≡ cause_number cause }
 {

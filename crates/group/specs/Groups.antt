@@ -1,5 +1,5 @@
 -- docs/RULES.md, "Groups": a balise group as one message. Definitions alone.
-use Rattle.std.specs.Prelude.{Bool, true, false, cond, not, ◌&&◌, ◌||◌, List, [], ◌∷◌, ◌++◌, map, ◌≡◌, ℕ, zero, suc, ◌+◌, min, eqb, leb, length, take, drop}
+use Rattle.std.specs.Prelude.{Bool, true, false, cond, not, ◌&&◌, ◌||◌, List, [], ◌∷◌, ◌++◌, map, ◌≡◌, ℕ, zero, suc, ◌+◌, min, eqb, leb, length, take, drop, Ok, Err}
 use Rattle.std.proofs.Math.Option.{Option, some, none}
 use Rattle.bits.specs.Bits.{bytes_for, same}
 use Rattle.format.specs.Fields.{Field, N_PIG, N_TOTAL, M_DUP, M_MCOUNT, NID_C, NID_BG, Q_LINK, NID_PACKET, Q_DIR}
@@ -12,8 +12,7 @@ use Rattle.states.specs.Reader.{checked}
 use Rattle.group.specs.declared.Cause.{Cause}
 use Rattle.group.specs.declared.Cause.TheVariants.{Room, Single, Identity, Counters, Copied, Repeated}
 use Rattle.group.specs.declared.Fault.{Fault}
-use Rattle.group.specs.declared.Reply.{Reply}
-use Rattle.group.specs.declared.Reply.TheVariants.{Packets, Refused}
+use Rattle.group.specs.Replies.{Reply}
 
 -- ---- the telegrams, in order of arrival
 
@@ -223,8 +222,8 @@ group p s ns room = cond (leb packets_needed room) (judged (arrived p 0 (parts s
 
 -- "it gives their count"
 abbrev pub reply_of : Message → Reply
-reply_of (lists ms) = Packets (length ms)
-reply_of (refuses f) = Refused f
+reply_of (lists ms) = Ok (length ms)
+reply_of (refuses f) = Err f
 
 -- what a lent run holds then: the packets' numbers in front of what was there behind them; "a refusal leaves everything as it was"
 abbrev pub over : (Member → ℕ) → Message → List ℕ → List ℕ

@@ -1,5 +1,5 @@
 -- What the functions that make up `message::message` promise, and what those that are not public ask. Definitions alone.
-use Rattle.std.specs.Prelude.{Bool, cond, ◌&&◌, true, List, [], ◌∷◌, ◌≡◌, ℕ, suc, ◌+◌, ◌-◌, ◌≤◌, min, eqb, leb, length, take, drop}
+use Rattle.std.specs.Prelude.{Bool, cond, ◌&&◌, true, false, List, [], ◌∷◌, ◌≡◌, ℕ, suc, ◌+◌, ◌-◌, ◌≤◌, min, eqb, leb, length, take, drop, Ok, Err, Result, ⊤, Some, None}
 use Rattle.std.proofs.Math.Option.{Option, some, none}
 use Rattle.bits.specs.Bits.{bytes_for}
 use Rattle.format.specs.Fields.{N_TOTAL}
@@ -7,23 +7,20 @@ use Rattle.format.specs.Rules.{Terms, paper}
 use Rattle.format.specs.Telegrams.{Entry}
 use Rattle.format.specs.Telegrams.Result.{accepted}
 use Rattle.states.specs.Reader.{checked}
-use Rattle.group.specs.declared.Came.{Came}
-use Rattle.group.specs.declared.Came.TheVariants.{All, Stops}
 use Rattle.group.specs.declared.Cause.TheVariants.{Room, Single, Identity, Counters, Copied}
-use Rattle.group.specs.declared.Found.{Found}
-use Rattle.group.specs.declared.Found.TheVariants.{At, Nowhere}
-use Rattle.group.specs.declared.Verdict.{Verdict}
-use Rattle.group.specs.declared.Verdict.TheVariants.{Faulty, Fine}
 use Rattle.group.specs.Groups.{Arrived, arrived, parts, held, standing, every, pairwise, agree, grouped, in_order, counted, miscopied, Member, Message, fault, listed, counting, collision, uncollided, packets_needed}
 use Rattle.group.specs.Groups.Arrived.{all, stops}
 use Rattle.group.specs.Groups.Message.{refuses}
+use Rattle.format.specs.declared.Refusal.{Refusal}
+use Rattle.std.specs.Prelude as code
+use Rattle.group.specs.declared.Fault.{Fault}
 
 -- ---- arriving
 
 -- how far the arrival came
-abbrev pub came_of : Arrived → Came
-came_of (all ts) = All
-came_of (stops i r) = Stops i r
+abbrev pub came_of : Arrived → Result ⊤ (ℕ × Refusal)
+came_of (all ts) = Ok tt
+came_of (stops i r) = Err (i, r)
 
 -- how many of the bytes that are left are the next telegram's
 abbrev pub part_length : ℕ → ℕ → Bool → ℕ
@@ -40,6 +37,11 @@ telegrams_of s ns = those (arrived paper 0 (parts s ns))
 -- every telegram was accepted
 pub record Arrives (s ns : List ℕ) : Type 0 where
   pub goes : arrived paper 0 (parts s ns) ≡ all (telegrams_of s ns)
+
+-- the same as a test
+abbrev pub all_accepted : Arrived → Bool
+all_accepted (all ts) = true
+all_accepted (stops i r) = false
 
 -- bytes in whose front a telegram of n bits stands
 pub record Front (p : Terms) (u : List ℕ) (n : ℕ) (es : List Entry) : Type 0 where
@@ -87,29 +89,29 @@ preceding k ts = cond (eqb k 0) none (some (seated (k - 1) ts))
 abbrev pub following : ℕ → ℕ → List (List Entry) → Option (List Entry)
 following k n ts = cond (eqb (k + 1) n) none (some (seated (k + 1) ts))
 
-abbrev pub found_of : Option ℕ → Found
-found_of none = Nowhere
-found_of (some k) = At k
+abbrev pub found_of : Option ℕ → code.Option ℕ
+found_of none = None
+found_of (some k) = Some k
 
 -- ---- what all tests but the last come to
 
-abbrev pub copy_verdict : Option ℕ → Verdict
-copy_verdict none = Fine
-copy_verdict (some k) = Faulty (fault Copied k 0)
+abbrev pub copy_verdict : Option ℕ → Result ⊤ Fault
+copy_verdict none = Ok tt
+copy_verdict (some k) = Err (fault Copied k 0)
 
 -- of telegrams by their N_PIG, as they arrived, and of a group
-abbrev pub line_verdict : List (List Entry) → Verdict
-line_verdict ts = cond (counted ts) (copy_verdict (miscopied 0 none ts)) (Faulty (fault Counters 0 0))
+abbrev pub line_verdict : List (List Entry) → Result ⊤ Fault
+line_verdict ts = cond (counted ts) (copy_verdict (miscopied 0 none ts)) (Err (fault Counters 0 0))
 
-abbrev pub verdict_of : List (List Entry) → Verdict
-verdict_of ts = cond (grouped ts) (line_verdict (in_order 0 (length ts) ts)) (Faulty (fault Identity 0 0))
+abbrev pub verdict_of : List (List Entry) → Result ⊤ Fault
+verdict_of ts = cond (grouped ts) (line_verdict (in_order 0 (length ts) ts)) (Err (fault Identity 0 0))
 
-abbrev pub arrival_verdict : Arrived → Verdict
+abbrev pub arrival_verdict : Arrived → Result ⊤ Fault
 arrival_verdict (all ts) = verdict_of ts
-arrival_verdict (stops i r) = Faulty (fault (Single r.kind) i r.place)
+arrival_verdict (stops i r) = Err (fault (Single r.kind) i r.place)
 
-abbrev pub group_verdict : List ℕ → List ℕ → ℕ → Verdict
-group_verdict s ns room = cond (leb packets_needed room) (arrival_verdict (arrived paper 0 (parts s ns))) (Faulty (fault Room 0 0))
+abbrev pub group_verdict : List ℕ → List ℕ → ℕ → Result ⊤ Fault
+group_verdict s ns room = cond (leb packets_needed room) (arrival_verdict (arrived paper 0 (parts s ns))) (Err (fault Room 0 0))
 
 -- the packets that count, and the last test
 abbrev pub packets_of_all : List ℕ → List ℕ → List Member
@@ -119,6 +121,6 @@ abbrev pub last_test : List ℕ → List ℕ → Message
 last_test s ns = uncollided (packets_of_all s ns) (collision [] (packets_of_all s ns))
 
 -- the refusal, or else what the last test says
-abbrev pub judged_by : Verdict → Message → Message
-judged_by (Faulty f) m = refuses f
-judged_by Fine m = m
+abbrev pub judged_by : Result ⊤ Fault → Message → Message
+judged_by (Err f) m = refuses f
+judged_by (Ok tt) m = m

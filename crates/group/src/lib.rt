@@ -5,7 +5,7 @@
 use format::{Kind, Refusal};
 
 // Why a group is refused. `causeNumber` in specs/Groups.antt gives the number of each (docs/RULES.md).
-#[derive(Clone, Copy)]
+#[derive(Clone, Copy, Debug, PartialEq, Eq)]
 pub enum Cause {
     // there is no room for 264 packets
     Room,
@@ -22,37 +22,9 @@ pub enum Cause {
 }
 
 // A refusal. `which` is an arrival number for a single telegram, an N_PIG for Copied and Repeated, and else 0.
-#[derive(Clone, Copy)]
+#[derive(Clone, Copy, Debug, PartialEq, Eq)]
 pub struct Fault {
     pub cause: Cause,
     pub which: usize,
     pub place: usize,
-}
-
-// What a group answers: how many packets its message has, or why there is none.
-#[derive(Clone, Copy)]
-pub enum Reply {
-    Packets(usize),
-    Refused(Fault),
-}
-
-// How far the telegrams are accepted, in order of arrival: all of them, or to the first that is refused, with its arrival number.
-#[derive(Clone, Copy)]
-pub enum Came {
-    All,
-    Stops(usize, Refusal),
-}
-
-// An N_PIG that was looked for.
-#[derive(Clone, Copy)]
-pub enum Found {
-    At(usize),
-    Nowhere,
-}
-
-// What all tests but the last come to, which is for packets that collide.
-#[derive(Clone, Copy)]
-pub enum Verdict {
-    Faulty(Fault),
-    Fine,
 }

@@ -1,15 +1,14 @@
 -- What the message of a group answers where it is called from C. Definitions alone.
-use Rattle.std.specs.Prelude.{List, ◌≡◌, ℕ, ◌+◌, ◌-◌, ◌*◌, ◌^◌, min}
+use Rattle.std.specs.Prelude.{List, ◌≡◌, ℕ, ◌+◌, ◌-◌, ◌*◌, ◌^◌, min, Ok, Err}
 use Rattle.format.specs.Rules.{Terms}
-use Rattle.group.specs.declared.Reply.{Reply}
-use Rattle.group.specs.declared.Reply.TheVariants.{Packets, Refused}
 use Rattle.group.specs.Groups.{Member, cause_number, reply_of, over, group_in}
+use Rattle.group.specs.Replies.{Reply}
 
 -- How many packets; or 2^49 times the refusal's number plus which, and 1,024 times that plus the place. Which is cut there: no memory holds the list
 -- of so many telegrams. A place is at most 830.
 abbrev pub group_code : Reply → ℕ
-group_code (Packets n) = n
-group_code (Refused f) = (cause_number f.cause * 2 ^ 49 + min f.which (2 ^ 49 - 1)) * 1024 + min f.place 1023
+group_code (Ok n) = n
+group_code (Err f) = (cause_number f.cause * 2 ^ 49 + min f.which (2 ^ 49 - 1)) * 1024 + min f.place 1023
 
 pub record GroupAnswer (p : Terms) (s ns pigs numbers : List ℕ) (answer : ℕ) (pigs' numbers' : List ℕ) : Type 0 where
   pub answers : answer ≡ group_code (reply_of (group_in p s ns pigs numbers))

@@ -1,4 +1,5 @@
 -- Copies: two telegrams compared behind their headers, and what M_DUP names. Assumes nothing.
+use Rattle.std.specs.Prelude.{Some, None}
 use mathlib.Core.Bool.{Bool, true, false, cond, ◌&&◌}
 use mathlib.Core.List.{List, [], ◌∷◌}
 use mathlib.Core.Option.{some, none}
@@ -17,7 +18,6 @@ use Rattle.seats.specs.Seats.{seat_of, same_packets}
 use Rattle.format.specs.Rules.{paper}
 use Rattle.format.specs.Telegrams.{Entry, bits}
 use Rattle.states.proofs.Accepting.{sent}
-use Rattle.group.specs.declared.Found.TheVariants.{At, Nowhere}
 use Rattle.group.specs.Groups.{body, first, names_right, miscopied, in_order}
 use Rattle.group.specs.Walks.{Lineup, Seated, telegrams_of, seated, line_of, preceding, following, found_of}
 use Rattle.group_laws.proofs.Held.{front_bits, front_sound, front_size}
@@ -123,9 +123,9 @@ module _ {s ns : List ℕ} (l : Lineup s ns) where
     naming_on e = record { few = omega arith; same = named ∙ rw e }
 
     pub naming_wrong : names_right (preceding k (telegrams_of s ns)) (seated k (telegrams_of s ns)) (following k (length ns) (telegrams_of s ns)) ≡ false
-        → At k ≡ found_of (miscopied 0 none (line_of s ns))
+        → Some k ≡ found_of (miscopied 0 none (line_of s ns))
     naming_wrong e = sym (named ∙ rw e)
 
-  pub naming_end : {k : ℕ} → Naming s ns k → length ns ≤ k → Nowhere ≡ found_of (miscopied 0 none (line_of s ns))
+  pub naming_end : {k : ℕ} → Naming s ns k → length ns ≤ k → None ≡ found_of (miscopied 0 none (line_of s ns))
   unfolding miscopied
   naming_end {k} g h = sym (g.same ∙ ap (λ (x : List (List Entry)). found_of (miscopied k (preceding k (telegrams_of s ns)) x)) (line_end l k h))

@@ -1,4 +1,5 @@
 -- "a refusal leaves everything as it was" and "it gives their count", of what is promised alone: what both runs hold after either answer. Assumes nothing.
+use Rattle.std.specs.Prelude.{Ok, Err}
 use mathlib.Core.List.{List, ◌++◌, map}
 use mathlib.Core.Path.{◌≡◌, sym, ap, ◌∙◌}
 use Prim.Native.Nat.{ℕ, min}
@@ -6,13 +7,12 @@ use native.Mathlib.Omega.{arith}
 use lib.ListN.{length, drop}
 use Rattle.format.specs.Rules.{Terms}
 use Rattle.group.specs.declared.Fault.{Fault}
-use Rattle.group.specs.declared.Reply.TheVariants.{Packets, Refused}
 use Rattle.group.specs.Groups.{Member, Message, reply_of, over, group, group_in, Replied}
 use Rattle.group.specs.Groups.Message.{lists, refuses}
 use Rattle.group_laws.proofs.AnyOrder.{reply_lists}
 
 -- a refusal is answered of a refusal alone
-reply_refuses : (m : Message) (f : Fault) → Refused f ≡ reply_of m → m ≡ refuses f
+reply_refuses : (m : Message) (f : Fault) → Err f ≡ reply_of m → m ≡ refuses f
 reply_refuses (lists ms) f e = let z : ◌≡◌ {A = ℕ} 0 1 = cc in absurd (omega arith)
 reply_refuses (refuses g) f e = let i : f ≡ g = cc in ap refuses (sym i)
 
@@ -31,7 +31,7 @@ pub record Filled (p : Terms) (s ns pigs numbers : List ℕ) (c : ℕ) (pigs' nu
   pub numbers_then : numbers' ≡ map (λ m. m.number) packets ++ drop c numbers
 
 module _ {p : Terms} {s ns pigs numbers pigs' numbers' : List ℕ} where
-  pub left_untouched : (f : Fault) → Replied p s ns pigs numbers (Refused f) pigs' numbers' → Untouched p s ns pigs numbers f pigs' numbers'
+  pub left_untouched : (f : Fault) → Replied p s ns pigs numbers (Err f) pigs' numbers' → Untouched p s ns pigs numbers f pigs' numbers'
   left_untouched f r =
       let e = reply_refuses (group_in p s ns pigs numbers) f r.answers in
       record {
@@ -40,7 +40,7 @@ module _ {p : Terms} {s ns pigs numbers pigs' numbers' : List ℕ} where
         numbers_kept = r.numbers_then ∙ ap (λ (x : Message). over (λ m. m.number) x numbers) e;
       }
 
-  pub left_filled : (c : ℕ) → Replied p s ns pigs numbers (Packets c) pigs' numbers' → Filled p s ns pigs numbers c pigs' numbers'
+  pub left_filled : (c : ℕ) → Replied p s ns pigs numbers (Ok c) pigs' numbers' → Filled p s ns pigs numbers c pigs' numbers'
   left_filled c r =
       let l = reply_lists (group_in p s ns pigs numbers) c (sym r.answers) in
       let ms = l.0 in

@@ -1,4 +1,5 @@
 -- The packets of an accepted telegram where they stand in its bytes: each by its three numbers, and the end mark behind the last. Assumes nothing.
+use Rattle.std.specs.Prelude.{Some, None, Option, ℕ}
 use mathlib.Core.List.{List, [], ◌∷◌, ◌++◌, append_assoc, append-nil}
 use mathlib.Core.Path.{◌≡◌, refl, sym, ap, ap₂, ◌∙◌, subst}
 use Prim.Native.Nat.{ℕ, zero, suc, ◌+◌, ◌-◌, ◌*◌, ◌/◌, ◌%◌, ◌≤◌, ◌<◌, max}
@@ -17,8 +18,6 @@ use Rattle.states.proofs.Accepting.{sent}
 use Rattle.laws.proofs.EachWay.{telegram_small}
 use Rattle.states.specs.Lookback.{id_in, dir_in, long_in}
 use Rattle.sightings.specs.Sightings.{head_of, head_at, on_sight, Glimpse, glimpsed, glimpses}
-use Rattle.sightings.specs.declared.Sighting.{Sighting}
-use Rattle.sightings.specs.declared.Sighting.TheVariants.{Packet, Nothing}
 use Rattle.group.specs.Groups.{Member, packets_from, packets_of}
 use Rattle.group.specs.Walks.{Front}
 use Rattle.group_laws.proofs.Heads.{IsHeaded, AllHeaded}
@@ -36,14 +35,14 @@ headed_at (x ∷ xs) p ys h = headed_at xs p ys h.1
 -- what stands at a packet's bit
 pub record PacketAt (u : List ℕ) (n at : ℕ) (p : List Entry) : Type 0 where
   pub head : IsHeaded p
-  pub sight : head_at u (n - 8) at ≡ Packet head.id head.dir (bit_count p)
+  pub sight : head_at u (n - 8) at ≡ Some (head.id, head.dir, bit_count p)
   pub small : head.dir ≤ 2
   pub least : 23 ≤ bit_count p
   pub inside : at + bit_count p + 8 ≤ n
 
 -- a head of three numbers in one
 head_parts : (a i d l : ℕ) → a < 8388608 → i ≡ a / 32768 % 256 → d ≡ a / 8192 % 4 → l ≡ a / 1 % 8192 → 23 ≤ l
-    → Packet (id_in a) (dir_in a) (max (long_in a) 23) ≡ Packet i d l
+    → ◌≡◌ {A = Option (ℕ × ℕ × ℕ)} (Some (id_in a, dir_in a, max (long_in a) 23)) (Some (i, d, l))
 head_parts a i d l h ei ed el least =
     let x : id_in a ≡ i = omega arith in
     let y : dir_in a ≡ d = omega arith in
@@ -100,7 +99,7 @@ module _ {u : List ℕ} {n : ℕ} {es : List Entry} (q : Front paper u n es) whe
         head = h;
         sight = ap head_of (take_whole u (n - 8) 23 at (omega arith) (omega arith) (omega arith))
             ∙ head_parts number h.id h.dir h.long (field_lt u 23 at (omega arith)) name way size (omega arith)
-            ∙ ap (Packet h.id h.dir) (sym long);
+            ∙ ap (λ (far : ℕ). Some (h.id, h.dir, far)) (sym long);
         small = telegram_small (front_sound q).telegram (record { before = b; after = holding L_PACKET h.long ∷ after; parts = here });
         least = least;
         inside = omega arith;
@@ -142,7 +141,7 @@ module _ {u : List ℕ} {n : ℕ} {es : List Entry} (q : Front paper u n es) (k 
   unfolding glimpsed
   last_seen zero at h = refl
   last_seen (suc fuel) at h =
-      let e : head_at u (n - 8) at ≡ Nothing = ap head_of (take_past u (n - 8) 23 at (omega arith) (omega arith)) in
+      let e : head_at u (n - 8) at ≡ None = ap head_of (take_past u (n - 8) 23 at (omega arith) (omega arith)) in
       rw e
 
   seen_from : (fuel j : ℕ) (xs ys : List (List Entry)) → all ≡ xs ++ ys → bit_counts ys ≤ fuel
@@ -162,7 +161,7 @@ module _ {u : List ℕ} {n : ℕ} {es : List Entry} (q : Front paper u n es) (k 
       let least = a.least in
       let next : at + bit_count p ≡ 50 + bit_counts (xs ++ (p ∷ [])) = omega arith in
       let rest = seen_from fuel (suc j) (xs ++ (p ∷ [])) ys (e ∙ sym (append_assoc xs (p ∷ []) ys)) (omega arith) in
-      ap (λ (x : Sighting). numbered k j (on_sight x (λ i d l. record { id = i; dir = d; at = at + 8 } ∷ glimpsed fuel u (n - 8) (at + l)))) a.sight
+      ap (λ (x : Option (ℕ × ℕ × ℕ)). numbered k j (on_sight x (λ i d l. record { id = i; dir = d; at = at + 8 } ∷ glimpsed fuel u (n - 8) (at + l)))) a.sight
       ∙ ap (λ (l : List Member). record { pig = k; number = j; id = a.head.id; dir = a.head.dir; at = at + 8 } ∷ l)
       (ap (λ (x : ℕ). numbered k (suc j) (glimpsed fuel u (n - 8) x)) next ∙ rest ∙ ap (λ (x : ℕ). packets_from k (suc j) x (ys ++ mark)) (sym next))
       ∙ sym (from_head p a.head k j at (ys ++ mark))

@@ -1,4 +1,5 @@
 -- One telegram of a group after the other, by the bytes that they take. Assumes nothing.
+use Rattle.std.specs.Prelude.{Ok, Err}
 use mathlib.Core.Bool.{Bool, true, false}
 use mathlib.Core.List.{List, [], ◌∷◌}
 use mathlib.Core.Path.{◌≡◌, refl, sym, ap, ap₂, ◌∙◌}
@@ -16,11 +17,9 @@ use Rattle.format.specs.Rules.{paper}
 use Rattle.format.specs.Telegrams.{Entry, Result}
 use Rattle.format.specs.Telegrams.Result.{accepted, refused}
 use Rattle.format.specs.declared.Refusal.{Refusal}
-use Rattle.format.specs.declared.Answer.TheVariants.{Accepted, Refused}
 use Rattle.states.specs.Reader.{checked, answer_of}
 use Rattle.states.proofs.Answers.{check_judges, sized_is}
 use Rattle.headers.proofs.Numbers.{drop_all}
-use Rattle.group.specs.declared.Came.TheVariants.{All, Stops}
 use Rattle.group.specs.Groups.{Arrived, arrived, arrival, parts}
 use Rattle.group.specs.Groups.Arrived.{all, stops}
 use Rattle.group.specs.Walks.{came_of, part_length, telegrams_of, those, Arrives, Front}
@@ -76,12 +75,12 @@ pub record Coming (s ns : List ℕ) (i start : ℕ) : Type 0 where
 pub coming_first : (s ns : List ℕ) → Coming s ns 0 0
 coming_first s ns = record { few = omega arith; within = omega arith; same = refl }
 
-after_answer : (r : Result) (k : ℕ) (i : ℕ) (a : Arrived) → answer_of r ≡ Accepted k → came_of (arrival r i a) ≡ came_of a
+after_answer : (r : Result) (k : ℕ) (i : ℕ) (a : Arrived) → answer_of r ≡ Ok k → came_of (arrival r i a) ≡ came_of a
 after_answer (accepted es) k i (all ts) e = refl
 after_answer (accepted es) k i (stops j q) e = refl
 after_answer (refused q) k i a e = cc
 
-stops_answer : (r : Result) (q : Refusal) (i : ℕ) (a : Arrived) → answer_of r ≡ Refused q → Stops i q ≡ came_of (arrival r i a)
+stops_answer : (r : Result) (q : Refusal) (i : ℕ) (a : Arrived) → answer_of r ≡ Err q → Err (i, q) ≡ came_of (arrival r i a)
 stops_answer (accepted es) q i a e = cc
 stops_answer (refused r) q i a e = cc
 
@@ -99,7 +98,7 @@ module _ {s ns : List ℕ} {i start : ℕ} (g : Coming s ns i start) (h : i < le
       by_last true k = let w = g.within in omega arith
       by_last false k = let w = g.within in omega arith
 
-  pub coming_on : (k : ℕ) → Accepted k ≡ answer_of (checked paper (take (e - start) (drop start s)) (get_or ns i 0)) → Coming s ns (i + 1) e
+  pub coming_on : (k : ℕ) → Ok k ≡ answer_of (checked paper (take (e - start) (drop start s)) (get_or ns i 0)) → Coming s ns (i + 1) e
   coming_on k a = record {
     few = omega arith;
     within = part_most;
@@ -108,22 +107,22 @@ module _ {s ns : List ℕ} {i start : ℕ} (g : Coming s ns i start) (h : i < le
         ∙ ap (λ (j : ℕ). came_of (arrived paper j (parts (drop e s) (drop (i + 1) ns)))) (sym (add-one i));
   }
 
-  pub coming_stops : (r : Refusal) → Refused r ≡ answer_of (checked paper (take (e - start) (drop start s)) (get_or ns i 0))
-      → Stops i r ≡ came_of (arrived paper 0 (parts s ns))
+  pub coming_stops : (r : Refusal) → Err r ≡ answer_of (checked paper (take (e - start) (drop start s)) (get_or ns i 0))
+      → Err (i, r) ≡ came_of (arrived paper 0 (parts s ns))
   coming_stops r a =
       stops_answer (checked paper (take (e - start) (drop start s)) (get_or ns i 0)) r i (arrived paper (suc i) (parts (drop e s) (drop (i + 1) ns))) (sym a)
       ∙ sym (g.same ∙ ap came_of turned)
 
-pub coming_all : {s ns : List ℕ} {i start : ℕ} → Coming s ns i start → length ns ≤ i → All ≡ came_of (arrived paper 0 (parts s ns))
+pub coming_all : {s ns : List ℕ} {i start : ℕ} → Coming s ns i start → length ns ≤ i → (Ok tt) ≡ came_of (arrived paper 0 (parts s ns))
 unfolding arrived parts
 coming_all {s} {ns} {i} {start} g h = sym (g.same ∙ ap (λ (l : List ℕ). came_of (arrived paper i (parts (drop start s) l))) (drop_all i ns h))
 
 -- and whoever finds that all came has them
-pub came_arrives : (s ns : List ℕ) → All ≡ came_of (arrived paper 0 (parts s ns)) → Arrives s ns
+pub came_arrives : (s ns : List ℕ) → (Ok tt) ≡ came_of (arrived paper 0 (parts s ns)) → Arrives s ns
 unfolding telegrams_of
 came_arrives s ns h = by_way (arrived paper 0 (parts s ns)) refl h
   where
-    by_way : (a : Arrived) → arrived paper 0 (parts s ns) ≡ a → All ≡ came_of a → Arrives s ns
+    by_way : (a : Arrived) → arrived paper 0 (parts s ns) ≡ a → (Ok tt) ≡ came_of a → Arrives s ns
     by_way (all ts) e k = record { goes = e ∙ ap all (sym (ap those e)) }
     by_way (stops i r) e k = let z : ◌≡◌ {A = ℕ} 0 1 = cc in absurd (omega arith)
 

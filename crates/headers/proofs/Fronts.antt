@@ -8,11 +8,11 @@ use native.Mathlib.Decide.{dec_le}
 use native.Mathlib.Omega.{arith}
 use borrow.Author.Tests.{lt-leb}
 use lib.Dec.{leb}
-use lib.ListN.{length, take, drop, get_or, length-drop, take-append-drop}
-use lib.Seq.{drop_at, length-take-le}
-use Rattle.bits.specs.Bits.{bits_of, value_of}
+use lib.ListN.{length, take, drop, get_or, length-drop}
+use lib.Seq.{take_all}
+use Rattle.std.proofs.lemmas.List.{get_or-drop}
+use Rattle.bits.specs.Bits.{value_of}
 use Rattle.bits.specs.Take.{field_bits, inside}
-use Rattle.bits.proofs.Bytes.{bits_of_append, length_bits_of}
 use Rattle.bits.proofs.Fields.{field_in_field, take_outside}
 use Rattle.bits.proofs.Windows.{window_is}
 use Rattle.headers.specs.Headers.{number_or0, number_at, front_of}
@@ -37,19 +37,15 @@ module _ (s : List ℕ) (start : ℕ) where
   pub front_short : length s - start < 8 → 0 ≡ front_of (drop start s)
   front_short h = let l = length-drop start s in number_short_bytes (drop start s) 0 32 (omega arith)
 
-  bits_from : start ≤ length s → bits_of (drop start s) ≡ drop (8 * start) (bits_of s)
-  bits_from h =
-      let l = length-take-le start s h in
-      let seam : length (bits_of (take start s)) ≡ 8 * start = length_bits_of (take start s) ∙ ap (λ (n : ℕ). 8 * n) l in
-      sym (ap (drop (8 * start)) (ap bits_of (sym (take-append-drop start s)) ∙ bits_of_append (take start s) (drop start s)) ∙ drop_at (bits_of (take start s)) (bits_of (drop start s)) (8 * start) seam)
-
-  pub front_window : start ≤ length s → (length s - start < 8 → ⊥) → ((i : ℕ) → get_or s i 0 < 2 ^ 8) → (w : ℕ)
-      → w ≡ ((get_or s start 0 * 2 ^ 8 + get_or s (start + 1) 0) * 2 ^ 8 + get_or s (start + 2) 0) * 2 ^ 8 + get_or s (start + 3) 0 → w ≡ front_of (drop start s)
-  front_window h k byte w e =
+  -- of what lies from the byte start on, if it has eight bytes
+  pub front_window : (u : List ℕ) → u ≡ take (length s - start) (drop start s) → 8 ≤ length u → ((i : ℕ) → get_or s i 0 < 2 ^ 8) → (w : ℕ)
+      → w ≡ ((get_or u 0 0 * 2 ^ 8 + get_or u 1 0) * 2 ^ 8 + get_or u 2 0) * 2 ^ 8 + get_or u 3 0 → w ≡ front_of (drop start s)
+  front_window u q h byte w e =
       let l = length-drop start s in
-      e ∙ window_is s start (omega (arith, k)) byte
-      ∙ ap (λ (b : List ℕ). value_of (take 32 b)) (sym (bits_from h))
-      ∙ sym (number_is (drop start s) 58 0 32 (omega arith) (omega arith) (omega (arith, k)))
+      let r : u ≡ drop start s = q ∙ take_all (length s - start) (drop start s) (omega arith) in
+      let n : length u ≡ length (drop start s) = ap length r in
+      let each : (i : ℕ) → get_or u i 0 < 2 ^ 8 = λ i. rw (r, get_or-drop start s i 0) (byte (start + i)) in
+      e ∙ window_is u 0 (omega arith) each ∙ sym (number_is u 58 0 32 (omega arith) (omega arith) (omega arith)) ∙ ap front_of r
 
 -- a number of the header inside them
 pub front_part : (u : List ℕ) (o w low : ℕ) → o + (w + low) ≡ 32 → w ≤ 64 → front_of u / 2 ^ low % 2 ^ w ≡ number_at u 58 o w

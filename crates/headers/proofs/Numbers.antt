@@ -1,18 +1,14 @@
 -- What a look for a number in bytes finds: the number where its bits are there, and 0 where they are not. Assumes nothing.
+use Rattle.std.specs.Prelude.{Some, ℕ}
 use mathlib.Core.Bool.{Bool, true, false}
 use mathlib.Core.List.{List, [], ◌∷◌}
 use mathlib.Core.Path.{◌≡◌, refl, sym, ap, ◌∙◌}
 use Prim.Native.Nat.{ℕ, zero, suc, ◌+◌, ◌-◌, ◌*◌, ◌≤◌, ◌<◌}
 use native.Mathlib.Omega.{arith}
-use borrow.Author.Tests.{ne_eqb, lt-leb}
-use lib.Dec.{eqb, leb}
+use lib.Dec.{leb}
 use lib.ListN.{length, take, drop, length-drop}
-use lib.Seq.{take_all}
 use Rattle.bits.specs.Bits.{bits_of, bytes_for, value_of}
 use Rattle.bits.specs.Take.{field_bits, inside, taken_if, taken_at}
-use Rattle.bits.specs.declared.Cursor.{Cursor}
-use Rattle.bits.specs.declared.Taken.{Taken}
-use Rattle.bits.specs.declared.Taken.TheVariants.{Field, Short}
 use Rattle.bits.proofs.Fields.{take_whole, room_by_bytes}
 use Rattle.headers.specs.Headers.{number_or0, number_at}
 
@@ -31,7 +27,7 @@ pub number_none : (n bit width : ℕ) → 0 ≡ number_at [] n bit width
 unfolding taken_at bits_of value_of
 number_none n bit width = by_test (inside [] n width bit)
   where
-    by_test : (b : Bool) → 0 ≡ number_or0 (taken_if b (Field (value_of (take width (drop bit []))) (record { at = bit + width })))
+    by_test : (b : Bool) → 0 ≡ number_or0 (taken_if b (Some (value_of (take width (drop bit [])), record { at = bit + width })))
     by_test true = sym (ap value_of (ap (take width) (drop_all bit [] (omega arith)) ∙ take_none width))
     by_test false = refl
 
@@ -43,26 +39,7 @@ module _ (s : List ℕ) (start n bit width : ℕ) where
   pub number_outside : length s < start → 0 ≡ number_at (drop start s) n bit width
   number_outside h = number_none n bit width ∙ ap (λ (u : List ℕ). number_at u n bit width) (sym (drop_all start s (omega arith)))
 
-  module _ (r : Taken) (e : r ≡ taken_at (take (length s - start) (drop start s)) n width bit) where
-    as_taken : number_or0 r ≡ number_at (drop start s) n bit width
-    as_taken =
-        let l = length-drop start s in
-        ap number_or0 (e ∙ ap (λ (u : List ℕ). taken_at u n width bit) (take_all (length s - start) (drop start s) (omega arith)))
-
-    pub number_taken : (v : ℕ) (c : Cursor) → r ≡ Field v c → v ≡ number_at (drop start s) n bit width
-    number_taken v c f = sym (ap number_or0 f) ∙ as_taken
-
-    pub number_short : r ≡ Short → 0 ≡ number_at (drop start s) n bit width
-    number_short f = sym (ap number_or0 f) ∙ as_taken
-
 -- ---- whether so many bits lie there
-
-pub room_outside : (s : List ℕ) (start n : ℕ) → length s < start → eqb n 0 ≡ leb n (8 * length (drop start s))
-room_outside s start n h = let e : length (drop start s) ≡ 0 = ap length (drop_all start s (omega arith)) in rw e (none_only n)
-  where
-    none_only : (k : ℕ) → eqb k 0 ≡ leb k 0
-    none_only zero = refl
-    none_only (suc k) = ne_eqb (suc k) 0 (λ e. omega arith) ∙ sym (lt-leb (suc k) 0 (omega arith))
 
 pub room_inside : (s : List ℕ) (start n : ℕ) → leb (bytes_for n) (length s - start) ≡ leb n (8 * length (drop start s))
 room_inside s start n = room_by_bytes n (length s - start) ∙ ap (λ (k : ℕ). leb n (8 * k)) (sym (length-drop start s))

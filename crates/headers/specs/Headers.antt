@@ -1,14 +1,13 @@
 -- Numbers in telegrams that lie one behind the other. Definitions alone.
-use Rattle.std.specs.Prelude.{Bool, cond, ◌&&◌, ◌||◌, List, ℕ, ◌*◌, eqb, leb, length, take, drop}
+use Rattle.std.specs.Prelude.{Bool, cond, ◌&&◌, ◌||◌, List, ℕ, ◌*◌, eqb, leb, length, take, drop, Some, None, Option}
 use Rattle.bits.specs.Bits.{bits_of, same}
 use Rattle.bits.specs.Take.{taken_at}
-use Rattle.bits.specs.declared.Taken.{Taken}
-use Rattle.bits.specs.declared.Taken.TheVariants.{Field, Short}
+use Rattle.bits.specs.declared.Cursor.{Cursor}
 
 -- what was taken, and 0 where there is nothing
-abbrev pub number_or0 : Taken → ℕ
-number_or0 (Field v c) = v
-number_or0 Short = 0
+abbrev pub number_or0 : Option (ℕ × Cursor) → ℕ
+number_or0 (Some (v, c)) = v
+number_or0 None = 0
 
 -- the number in the width bits from a bit on, of the n bits in front of these bytes
 abbrev pub number_at : List ℕ → ℕ → ℕ → ℕ → ℕ

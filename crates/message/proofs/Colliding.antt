@@ -1,4 +1,5 @@
 -- The loop over the balises that looks for packets that collide. Assumes nothing.
+use Rattle.std.specs.Prelude.{Ok, Err, Result, ℕ, ⊤}
 use mathlib.Core.Bool.{Bool, true, false, cond}
 use mathlib.Core.List.{List, [], ◌∷◌, ◌++◌}
 use mathlib.Core.Option.{Option, some, none}
@@ -18,11 +19,13 @@ use Rattle.group.specs.Walks.{Lineup, packets_of_all, telegrams_of}
 use Rattle.group_laws.proofs.Agreeing.{telegrams_count}
 use Rattle.group_laws.proofs.Enough.{grouped_few}
 use Rattle.group_laws.proofs.Packeting.{numbered}
-use Rattle.message.specs.Passing.{counted, hits, noted, table_then, Passes, clash_or, dup_before, sights_of, Collided}
-use Rattle.message.specs.declared.Clash.{Clash}
-use Rattle.message.specs.declared.Clash.TheVariants.{Free, At}
+use Rattle.message.specs.Passing.{counted, hits, noted, table_then, Passes, clash_of, clash_or, dup_before, sights_of, Collided}
 use Rattle.message.proofs.Tables.{Tabled, tabled_none, met_after, Passing, passing}
 use Rattle.message.proofs.Gathering.{rest_from, rest_first, rest_end, rest_turn, dup_next, size_is, sights_are, sights_small}
+
+-- what two equal collisions hold is equal
+pub held : {A : Type 0} (x y : ℕ × ℕ) → ◌≡◌ {A = Result A (ℕ × ℕ)} (Err x) (Err y) → x ≡ y
+held x y e = cc
 
 abbrev or_else : Option Member → Option Member → Option Member
 or_else none o = o
@@ -75,11 +78,11 @@ module _ {s ns : List ℕ} (l : Lineup s ns) where
     each = λ j h. absurd (omega arith);
   }
 
-  pub gathering_end : {k before : ℕ} {table counts : List ℕ} → Gathering s ns k before table counts → length ns ≤ k → Collided s ns (Free 0) counts
+  pub gathering_end : {k before : ℕ} {table counts : List ℕ} → Gathering s ns k before table counts → length ns ≤ k → Collided s ns (Ok tt) counts
   unfolding collision
   gathering_end {k} g h = record {
-    answer = sym (ap (clash_or 0) (g.same ∙ ap (collision g.met) (rest_end l k h)));
-    each = λ n e. record { wide = g.wide; of = λ j i. g.each j (omega arith) };
+    answer = sym (ap clash_of (g.same ∙ ap (collision g.met) (rest_end l k h)));
+    each = λ e. record { wide = g.wide; of = λ j i. g.each j (omega arith) };
   }
 
   module _ {k before : ℕ} {table counts : List ℕ} (g : Gathering s ns k before table counts) (h : k < length ns) (b : seats.Balise) (e : b ≡ balise_of s (seat_of s ns k) k before) where
@@ -95,23 +98,26 @@ module _ {s ns : List ℕ} (l : Lineup s ns) where
     turned : collision [] (packets_of_all s ns) ≡ or_else (collision g.met (numbered k 0 gs)) (collision (met_after (numbered k 0 gs) g.met) (rest_from s ns (k + 1)))
     turned = g.same ∙ ap (collision g.met) (rest_turn l k h before g.dup b e) ∙ collision_append g.met (numbered k 0 gs) (rest_from s ns (k + 1))
 
-    module _ {r : Clash} {table' : List ℕ} (p : Passes k gs table r table') where
+    module _ {r : Result ℕ (ℕ × ℕ)} {table' : List ℕ} (p : Passes k gs table r table') where
       pub gathering_long : (empty : List ℕ) → empty ≡ replicate 256 0 → length table' ≡ length empty
       gathering_long empty q = ap length p.contents ∙ length_then table gs ∙ g.tabled.long ∙ sym (ap length q ∙ length-replicate {A = ℕ} 256 0)
 
-      pub gathering_hit : (w a : ℕ) → r ≡ At w a → Collided s ns (At w a) counts
-      gathering_hit w a q = record { answer = by_way (collision g.met (numbered k 0 gs)) refl; each = λ n f. absurd (never n f) }
+      pub gathering_hit : (w a : ℕ) → r ≡ Err (w, a) → Collided s ns (Err (w, a)) counts
+      gathering_hit w a q = record { answer = by_way (collision g.met (numbered k 0 gs)) refl; each = λ f. absurd (neither f) }
         where
-          never : (n : ℕ) → At w a ≡ Free n → ⊥
+          neither : ◌≡◌ {A = Result ⊤ (ℕ × ℕ)} (Err (w, a)) (Ok tt) → ⊥
+          neither f = let z : ◌≡◌ {A = ℕ} 0 1 = cc in omega arith
+
+          never : (n : ℕ) → ◌≡◌ {A = Result ℕ (ℕ × ℕ)} (Err (w, a)) (Ok n) → ⊥
           never n f = let z : ◌≡◌ {A = ℕ} 0 1 = cc in omega arith
 
-          by_way : (o : Option Member) → collision g.met (numbered k 0 gs) ≡ o → At w a ≡ clash_or 0 (collision [] (packets_of_all s ns))
+          by_way : (o : Option Member) → collision g.met (numbered k 0 gs) ≡ o → Err (w, a) ≡ clash_of (collision [] (packets_of_all s ns))
           by_way none f = absurd (never (0 + length gs) (sym q ∙ p.answer ∙ passes.finds ∙ ap (clash_or (0 + length gs)) f))
           by_way (some m) f =
-              sym q ∙ p.answer ∙ passes.finds ∙ ap (clash_or (0 + length gs)) f
-              ∙ sym (ap (clash_or 0) (turned ∙ ap (λ (o : Option Member). or_else o (collision (met_after (numbered k 0 gs) g.met) (rest_from s ns (k + 1)))) f))
+              ap Err (held (w, a) (m.pig, m.at) (sym q ∙ p.answer ∙ passes.finds ∙ ap (clash_or (0 + length gs)) f))
+              ∙ sym (ap clash_of (turned ∙ ap (λ (o : Option Member). or_else o (collision (met_after (numbered k 0 gs) g.met) (rest_from s ns (k + 1)))) f))
 
-      pub gathering_on : (c : ℕ) → r ≡ Free c → Gathering s ns (k + 1) b.dup table' (set counts k c)
+      pub gathering_on : (c : ℕ) → r ≡ Ok c → Gathering s ns (k + 1) b.dup table' (set counts k c)
       gathering_on c q =
           let y = passes.leaves c (sym p.answer ∙ q) in
           let w = line_few in

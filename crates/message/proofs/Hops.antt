@@ -1,4 +1,5 @@
 -- The loops over the packets of one balise, from head to head. Assumes nothing.
+use Rattle.std.specs.Prelude.{Ok, Err, Some, None}
 use mathlib.Core.Bool.{true, false}
 use mathlib.Core.List.{List, [], ◌∷◌}
 use mathlib.Core.Path.{◌≡◌, refl, sym, ap, ap₂, ◌∙◌}
@@ -8,20 +9,18 @@ use native.Mathlib.Omega.{arith}
 use lib.ListN.{length, get_or, set, replicate, length-set}
 use lib.Seq.{sets}
 use Rattle.sightings.specs.Sightings.{head_at, repeats_in, joined_by, Glimpse, glimpsed, glimpses}
-use Rattle.sightings.specs.declared.Sighting.TheVariants.{Packet, Nothing}
-use Rattle.sightings.proofs.Finding.{head_small}
+use Rattle.sightings.proofs.Finding.{Small, head_small}
 use Rattle.message.specs.Passing.{passed, table_then, Passes, count_from, Lays}
-use Rattle.message.specs.declared.Clash.TheVariants.{Free, At}
 
 -- ---- from head to head
 
 -- so many packets at most are left, and every bit before the stop is reached by as many
-seen_none : (left : ℕ) (u : List ℕ) (stop at : ℕ) → Nothing ≡ head_at u stop at → glimpsed left u stop at ≡ []
+seen_none : (left : ℕ) (u : List ℕ) (stop at : ℕ) → None ≡ head_at u stop at → glimpsed left u stop at ≡ []
 unfolding glimpsed
 seen_none zero u stop at e = refl
 seen_none (suc left) u stop at e = rw (← e)
 
-seen_one : (left : ℕ) (u : List ℕ) (stop at i d l : ℕ) → Packet i d l ≡ head_at u stop at
+seen_one : (left : ℕ) (u : List ℕ) (stop at i d l : ℕ) → Some (i, d, l) ≡ head_at u stop at
     → glimpsed (suc left) u stop at ≡ record { id = i; dir = d; at = at + 8 } ∷ glimpsed left u stop (at + l)
 unfolding glimpsed
 seen_one left u stop at i d l e = rw (← e)
@@ -38,10 +37,10 @@ abbrev pub rest : {u : List ℕ} {stop at : ℕ} → Left u stop at → List Gli
 rest {u} {stop} {at} g = glimpsed g.few u stop at
 
 module _ {u : List ℕ} {stop at : ℕ} (g : Left u stop at) where
-  pub rest_none : Nothing ≡ head_at u stop at → rest g ≡ []
+  pub rest_none : None ≡ head_at u stop at → rest g ≡ []
   rest_none e = seen_none g.few u stop at e
 
-  module _ (i d l : ℕ) (e : Packet i d l ≡ head_at u stop at) where
+  module _ (i d l : ℕ) (e : Some (i, d, l) ≡ head_at u stop at) where
     pub left_on : Left u stop (at + l)
     left_on = let s = head_small u stop at i d l e in let h = g.enough in record { few = g.few - 1; enough = omega (arith, s.least, s.whole) }
 
@@ -67,13 +66,16 @@ unfolding left_first
 hopping_first k u n table h l = record { left = left_first u n h; finds = refl; leaves = refl; long = l; few = omega arith }
 
 module _ {k : ℕ} {u : List ℕ} {stop : ℕ} {gs : List Glimpse} {before table : List ℕ} {at j : ℕ} (g : Hopping k u stop gs before table at j) where
-  pub hopping_end : Nothing ≡ head_at u stop at → Passes k gs before (Free j) table
+  pub hopping_end : None ≡ head_at u stop at → Passes k gs before (Ok j) table
   hopping_end e =
       let r = rest_none g.left e in
       record { answer = sym (g.finds ∙ ap (passed k j table) r); contents = sym (g.leaves ∙ ap (table_then table) r) }
 
-  module _ (i d l : ℕ) (e : Packet i d l ≡ head_at u stop at) where
-    pub hopping_hit : repeats_in i d (get_or table i 0) ≡ true → Passes k gs before (At k (at + 8)) table
+  module _ (i d l : ℕ) (e : Some (i, d, l) ≡ head_at u stop at) where
+    pub hopping_small : Small stop at i l
+    hopping_small = head_small u stop at i d l e
+
+    pub hopping_hit : repeats_in i d (get_or table i 0) ≡ true → Passes k gs before (Err (k, at + 8)) table
     hopping_hit b =
         let r = rest_one g.left i d l e in
         record { answer = sym (g.finds ∙ ap (passed k j table) r ∙ rw b); contents = sym (g.leaves ∙ ap (table_then table) r ∙ rw b) }

@@ -12,7 +12,6 @@ use Rattle.group_laws.proofs.Packeting.{numbered}
 use Rattle.group_laws.proofs.Enough.{lineup_most}
 use Rattle.message.specs.Passing.{count_from, Roomy, Lays, Stores, sights_of}
 use Rattle.message.proofs.Gathering.{rest_from, length_numbered, rest_first, rest_end, rest_here, few_here}
-use Rattle.message.proofs.Colliding.{line_few}
 
 -- ---- what is put for one balise is what the list has
 
@@ -89,9 +88,6 @@ module _ {s ns pigs numbers : List ℕ} (l : Lineup s ns) where
         let p = g.pigs_long in
         let q = g.numbers_long in
         record { few = omega arith; pigs_left = omega arith; numbers_left = omega arith }
-
-    pub pig_small : k < 256
-    pig_small = let f = line_few l in omega arith
 
     module _ {r : ℕ} {p q : List ℕ} (w : Lays k i n pigs' numbers' r p q) where
       put : (f : Member → ℕ) (l' : List ℕ) → sets l' i (map f (rest_from s ns k)) ≡ sets (sets l' i (map f (numbered k 0 gs))) r (map f (rest_from s ns (k + 1)))

@@ -1,4 +1,5 @@
 -- The table of ways has just what a list of the packets met would have. Assumes nothing.
+use Rattle.std.specs.Prelude.{Ok, Err, Result}
 use mathlib.Core.Bool.{Bool, true, false, cond, not, ◌&&◌, ◌||◌}
 use mathlib.Core.List.{List, [], ◌∷◌}
 use mathlib.Core.Option.{none}
@@ -14,7 +15,6 @@ use Rattle.sightings.specs.Sightings.{Glimpse, shared_by, joined_by}
 use Rattle.group.specs.Groups.{Member, collision}
 use Rattle.group_laws.proofs.Packeting.{AllSmall, numbered}
 use Rattle.message.specs.Passing.{hits, noted, passed, table_then, clash_or}
-use Rattle.message.specs.declared.Clash.TheVariants.{Free, At}
 
 -- ---- ways
 
@@ -95,21 +95,21 @@ hits_is t g small way = ap (λ (b : Bool). not (eqb g.id 44) && b) (t.same g.id 
 -- the look finds what the definition does, and leaves a table of all that were met
 pub record Passing (k i j : ℕ) (gs : List Glimpse) (met : List Earlier) (table : List ℕ) : Type 0 where
   pub finds : passed k j table gs ≡ clash_or (j + length gs) (collision met (numbered k i gs))
-  pub leaves : (n : ℕ) → passed k j table gs ≡ Free n
+  pub leaves : (n : ℕ) → passed k j table gs ≡ Ok n
       → (n ≡ j + length gs) × ((collision met (numbered k i gs) ≡ none) × Tabled (met_after (numbered k i gs) met) (table_then table gs))
 
 pub passing : (k i j : ℕ) (gs : List Glimpse) {met : List Earlier} {table : List ℕ} → AllSmall gs → Tabled met table → Passing k i j gs met table
 unfolding collision
 passing k i j [] h t =
     let z : j + 0 ≡ j = omega arith in
-    record { finds = ap Free (sym z); leaves = λ n e. (let y : n ≡ j = cc in y ∙ sym z, (refl, t)) }
+    record { finds = ap Ok (sym z); leaves = λ n e. (let y : n ≡ j = cc in y ∙ sym z, (refl, t)) }
 passing k i j (g ∷ gs) {met} {table} h t =
     by_test (hits table g) refl (collides_among clash g.id g.dir met) refl (passing k (suc i) (suc j) gs h.1 (tabled_one t g h.0.0 h.0.1))
   where
     met' : List Earlier
     met' = record { id = g.id; dir = g.dir } ∷ met
 
-    never : (n : ℕ) → At k g.at ≡ Free n → ◌≡◌ {A = ℕ} 0 1
+    never : (n : ℕ) → ◌≡◌ {A = Result ℕ (ℕ × ℕ)} (Err (k, g.at)) (Ok n) → ◌≡◌ {A = ℕ} 0 1
     never n q = cc
 
     more : suc j + length gs ≡ j + suc (length gs)

@@ -1,5 +1,5 @@
 -- The packets of a group one after the other: first a look whether they collide, then each is put where it belongs. Definitions alone.
-use Rattle.std.specs.Prelude.{Bool, true, false, cond, List, [], ◌∷◌, map, ◌≡◌, ℕ, zero, suc, ◌+◌, ◌-◌, ◌≤◌, ◌<◌, eqb, length, drop, get_or, set, replicate}
+use Rattle.std.specs.Prelude.{Bool, true, false, cond, List, [], ◌∷◌, map, ◌≡◌, ℕ, zero, suc, ◌+◌, ◌-◌, ◌≤◌, ◌<◌, eqb, length, drop, get_or, set, replicate, Ok, Err, Result, ⊤}
 use Rattle.std.proofs.Math.Option.{Option, some, none}
 use Rattle.std.proofs.lemmas.List.Edits.{sets}
 use Rattle.format.specs.Fields.{M_DUP}
@@ -7,8 +7,6 @@ use Rattle.seats.specs.Seats.{seat_of, balise_of}
 use Rattle.sightings.specs.Sightings.{Glimpse, glimpses, repeats_in, joined_by}
 use Rattle.group.specs.Groups.{Member, held, collision}
 use Rattle.group.specs.Walks.{telegrams_of, seated, packets_of_all}
-use Rattle.message.specs.declared.Clash.{Clash}
-use Rattle.message.specs.declared.Clash.TheVariants.{Free, At}
 
 -- the packets of a balise, if it counts
 abbrev pub counted : Bool → List Glimpse → List Glimpse
@@ -25,23 +23,28 @@ abbrev pub noted : List ℕ → Glimpse → List ℕ
 noted table g = set table g.id (joined_by (get_or table g.id 0) g.dir)
 
 -- the first of a balise's packets that collides; or how many there are, of which j were met
-abbrev pub passed : ℕ → ℕ → List ℕ → List Glimpse → Clash
-passed k j table [] = Free j
-passed k j table (g ∷ gs) = cond (hits table g) (At k g.at) (passed k (suc j) (noted table g) gs)
+abbrev pub passed : ℕ → ℕ → List ℕ → List Glimpse → Result ℕ (ℕ × ℕ)
+passed k j table [] = Ok j
+passed k j table (g ∷ gs) = cond (hits table g) (Err (k, g.at)) (passed k (suc j) (noted table g) gs)
 
 -- the table behind those that do not
 abbrev pub table_then : List ℕ → List Glimpse → List ℕ
 table_then table [] = table
 table_then table (g ∷ gs) = cond (hits table g) table (table_then (noted table g) gs)
 
-pub record Passes (k : ℕ) (gs : List Glimpse) (table : List ℕ) (r : Clash) (table' : List ℕ) : Type 0 where
+pub record Passes (k : ℕ) (gs : List Glimpse) (table : List ℕ) (r : Result ℕ (ℕ × ℕ)) (table' : List ℕ) : Type 0 where
   pub answer : r ≡ passed k 0 table gs
   pub contents : table' ≡ table_then table gs
 
+-- the first of all
+abbrev pub clash_of : Option Member → Result ⊤ (ℕ × ℕ)
+clash_of none = Ok tt
+clash_of (some m) = Err (m.pig, m.at)
+
 -- the first of all, or so many
-abbrev pub clash_or : ℕ → Option Member → Clash
-clash_or n none = Free n
-clash_or n (some m) = At m.pig m.at
+abbrev pub clash_or : ℕ → Option Member → Result ℕ (ℕ × ℕ)
+clash_or n none = Ok n
+clash_or n (some m) = Err (m.pig, m.at)
 
 -- the M_DUP of the balise before the one with this N_PIG
 abbrev pub dup_before : List ℕ → List ℕ → ℕ → ℕ
@@ -57,9 +60,9 @@ pub record Counts (s ns counts : List ℕ) : Type 0 where
   pub wide : length counts ≡ 8
   pub of : (k : ℕ) → k < length ns → get_or counts k 0 ≡ length (sights_of s ns k)
 
-pub record Collided (s ns : List ℕ) (r : Clash) (counts : List ℕ) : Type 0 where
-  pub answer : r ≡ clash_or 0 (collision [] (packets_of_all s ns))
-  pub each : (n : ℕ) → r ≡ Free n → Counts s ns counts
+pub record Collided (s ns : List ℕ) (r : Result ⊤ (ℕ × ℕ)) (counts : List ℕ) : Type 0 where
+  pub answer : r ≡ clash_of (collision [] (packets_of_all s ns))
+  pub each : r ≡ Ok tt → Counts s ns counts
 
 -- ---- into the runs
 

@@ -11,6 +11,7 @@ use borrow.Author.Tests.{eq-eqb, ne_eqb}
 use lib.Dec.{eqb}
 use lib.ListN.{length, get_or, drop, length-drop}
 use lib.Seq.{drop-cons, drop-drop}
+use mir.Val.{bool_byte}
 use Rattle.bits.specs.Bits.{bytes_for}
 use Rattle.headers.proofs.Numbers.{drop_all}
 use Rattle.seats.specs.Seats.{pig_of, tallied, seat_from, seat_of}
@@ -42,6 +43,11 @@ pub record Tallying (s ns : List ℕ) (k i start count : ℕ) : Type 0 where
 
 pub tallying_first : (s ns : List ℕ) (k : ℕ) → Tallying s ns k 0 0 0
 tallying_first s ns k = record { within = omega arith; few = omega arith; counted = omega arith }
+
+-- a bool as a number
+pub as_number : (b : Bool) → bool_byte b ≡ cond b 1 0
+as_number true = refl
+as_number false = refl
 
 at_most : (b : Bool) → cond b 1 0 ≤ 1
 at_most true = omega arith

@@ -1,19 +1,16 @@
 -- Packets' heads in bytes, and ways that packets of one kind go. Definitions alone.
-use Rattle.std.specs.Prelude.{Bool, true, cond, not, ◌&&◌, ◌||◌, List, [], ◌∷◌, ℕ, zero, suc, ◌+◌, ◌-◌, max, eqb}
+use Rattle.std.specs.Prelude.{Bool, true, cond, not, ◌&&◌, ◌||◌, List, [], ◌∷◌, ℕ, zero, suc, ◌+◌, ◌-◌, max, eqb, Some, None, Option}
 use Rattle.bits.specs.Take.{taken_at}
-use Rattle.bits.specs.declared.Taken.{Taken}
-use Rattle.bits.specs.declared.Taken.TheVariants.{Field, Short}
 use Rattle.states.specs.Lookback.{id_in, dir_in, long_in}
-use Rattle.sightings.specs.declared.Sighting.{Sighting}
-use Rattle.sightings.specs.declared.Sighting.TheVariants.{Packet, Nothing}
+use Rattle.bits.specs.declared.Cursor.{Cursor}
 
 -- the numbers of a head: the next packet begins behind as many bits as L_PACKET says, and behind the head at least
-abbrev pub head_of : Taken → Sighting
-head_of (Field a c) = Packet (id_in a) (dir_in a) (max (long_in a) 23)
-head_of Short = Nothing
+abbrev pub head_of : Option (ℕ × Cursor) → Option (ℕ × ℕ × ℕ)
+head_of (Some (a, c)) = Some (id_in a, dir_in a, max (long_in a) 23)
+head_of None = None
 
 -- the head of 23 bits at a bit, ending by the bit stop
-abbrev pub head_at : List ℕ → ℕ → ℕ → Sighting
+abbrev pub head_at : List ℕ → ℕ → ℕ → Option (ℕ × ℕ × ℕ)
 head_at u stop at = head_of (taken_at u stop 23 at)
 
 -- 0 is no way, 1 that of Q_DIR 0, 2 that of Q_DIR 1, 3 both: a packet with Q_DIR 0 goes one of these unless they are none or just the other, and
@@ -42,9 +39,9 @@ pub record Glimpse : Type 0 where
   pub at : ℕ
 
 -- what there is at a head, and nothing where there is none
-abbrev pub on_sight : Sighting → (ℕ → ℕ → ℕ → List Glimpse) → List Glimpse
-on_sight (Packet i d l) found = found i d l
-on_sight Nothing found = []
+abbrev pub on_sight : Option (ℕ × ℕ × ℕ) → (ℕ → ℕ → ℕ → List Glimpse) → List Glimpse
+on_sight (Some (i, d, l)) found = found i d l
+on_sight None found = []
 
 -- the packets from the bit at on, before the bit stop, one after the other; there are at most k
 unfoldable pub glimpsed : ℕ → List ℕ → ℕ → ℕ → List Glimpse

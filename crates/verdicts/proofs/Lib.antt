@@ -1,2 +1,3 @@
--- One answer to each promise.
+-- What the types of telegrams say of them, and one answer to the promise.
+pub mod Lines
 pub mod Once

@@ -1,62 +1,53 @@
 // Whether telegrams are one group: their identity and their positions.
-ghost use Rattle.std.specs.Prelude.{◌≡◌, ◌<◌, length};
-ghost use Rattle.group.specs.Groups.{grouped, once};
-ghost use Rattle.group.specs.Walks.{Arrives, alike, telegrams_of};
-
+use crate::Accepted;
 use headers::{belongs, identity};
-use seats::{behind, tally};
+use seats::{Telegrams, behind};
 
 // The balises of a group at most.
 const MOST: usize = 8;
 
-// Whether they are 1 to 8, agree, and have the N_PIG from 0 to N_TOTAL, each once.
-pub(crate) fn identified(s: &[u8], ns: &[usize]) -> bool
-    requires { Arrives s.now ns.now }
-    ensures { result ≡ grouped (telegrams_of s.now ns.now) }
-{
-    let n = ns.len();
-    if n < 1 {
-        return false;
-    }
-    if MOST < n {
-        return false;
-    }
-    if !alike(s, ns) {
-        return false;
-    }
-    each_once(s, ns)
-}
+impl<'a> Accepted<'a> {
+    ghost use Rattle.std.specs.Prelude.{◌≡◌, ◌<◌, length};
+    ghost use Rattle.group.specs.Groups.{grouped, once};
+    ghost use Rattle.group.specs.Walks.{alike, telegrams_of};
 
-// Whether they have the first one's identity, and each N_TOTAL says how many they are.
-fn alike(s: &[u8], ns: &[usize]) -> bool
-    requires { Arrives s.now ns.now × (0 < length ns.now) }
-    ensures { result ≡ alike (telegrams_of s.now ns.now) }
-{
-    let whose = identity(s, 0);
-    let total = (ns.len() - 1) as u64;
-    let mut i = 0;
-    let mut start = 0;
-    while i < ns.len() {
-        if !belongs(s, start, whose, total) {
-            return false;
-        }
-        start = behind(s.len(), start, ns[i]);
-        i += 1;
-    }
-    true
-}
-
-// Whether each N_PIG below their number stands once.
-fn each_once(s: &[u8], ns: &[usize]) -> bool
-    requires { Arrives s.now ns.now }
-    ensures { result ≡ once (length ns.now) (telegrams_of s.now ns.now) }
-{
-    let mut k = ns.len();
-    while 0 < k {
-        k -= 1;
-        if tally(s, ns, k as u64) != 1 {
-            return false;
+    // Whether they are 1 to 8, agree, and have the N_PIG from 0 to N_TOTAL, each once.
+    pub(crate) fn identified(&self) -> bool
+        ensures { result ≡ grouped (telegrams_of self.now.telegrams.bytes.now self.now.telegrams.ns.now) }
+    {
+        match self.telegrams.ns.len() {
+            1..=MOST => self.alike() && self.each_once(),
+            _ => false,
         }
     }
-    true
+
+    // Whether they have the first one's identity, and each N_TOTAL says how many they are.
+    fn alike(&self) -> bool
+        requires { 0 < length self.now.telegrams.ns.now }
+        ensures { result ≡ alike (telegrams_of self.now.telegrams.bytes.now self.now.telegrams.ns.now) }
+    {
+        let Telegrams { bytes, ns } = self.telegrams;
+        let whose = identity(bytes, 0);
+        let total = (ns.len() - 1) as u64;
+        let mut start = 0;
+        for &n in ns {
+            if !belongs(bytes, start, whose, total) {
+                return false;
+            }
+            start = behind(bytes.len(), start, n);
+        }
+        true
+    }
+
+    // Whether each N_PIG below their number stands once.
+    fn each_once(&self) -> bool
+        ensures { result ≡ once (length self.now.telegrams.ns.now) (telegrams_of self.now.telegrams.bytes.now self.now.telegrams.ns.now) }
+    {
+        for k in 0..self.telegrams.ns.len() {
+            if self.telegrams.tally(k as u64) != 1 {
+                return false;
+            }
+        }
+        true
+    }
 }

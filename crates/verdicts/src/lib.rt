@@ -2,14 +2,14 @@
 // their counters, and what their M_DUP name.
 #![tactic(auto)]
 
-ghost use Rattle.std.specs.Prelude.{◌≡◌};
-ghost use Rattle.group.specs.Walks.{Arrives, group_verdict, telegrams_of, verdict_of};
+ghost use Rattle.std.specs.Prelude.{◌≡◌, true};
+ghost use Rattle.format.specs.Rules.{paper};
+ghost use Rattle.group.specs.Groups.{arrived, fault, grouped, parts};
+ghost use Rattle.group.specs.Walks.{all_accepted, group_verdict, telegrams_of, verdict_of};
 
-use crate::copies::miscopied;
-use crate::counters::counted;
-use crate::identity::identified;
 use arrivals::arrive;
-use group::{Came, Cause, Fault, Found, Verdict};
+use group::{Cause, Fault};
+use seats::Telegrams;
 
 mod copies;
 mod counters;
@@ -18,46 +18,70 @@ mod identity;
 // The packets for which there must be room.
 const PACKETS: usize = 264;
 
+// Telegrams that are each accepted by themselves.
+#[derive(Clone, Copy)]
+pub(crate) struct Accepted<'a> {
+    pub(crate) telegrams: Telegrams<'a>,
+    ghost arrives: { all_accepted (arrived paper 0 (parts telegrams.bytes.now telegrams.ns.now)) ≡ true },
+}
+
+// Telegrams that are each accepted, and by identity and positions one group.
+#[derive(Clone, Copy)]
+pub struct Lined<'a> {
+    pub telegrams: Telegrams<'a>,
+    pub ghost arrives: { all_accepted (arrived paper 0 (parts telegrams.bytes.now telegrams.ns.now)) ≡ true },
+    pub ghost whole: { grouped (telegrams_of telegrams.bytes.now telegrams.ns.now) ≡ true },
+}
+
 // The first fault of a group that is lent room for so many packets, but for packets that collide.
-pub fn judge(s: &[u8], ns: &[usize], room: usize) -> Verdict
+pub fn judge(s: &[u8], ns: &[usize], room: usize) -> Result<(), Fault>
     ensures { result ≡ group_verdict s.now ns.now room }
 {
     if room < PACKETS {
-        return faulty(Cause::Room, 0, 0);
+        return Err(of_all(Cause::Room));
     }
-    match arrive(s, ns) {
-        Came::Stops(i, r) => {
-            let kind = r.kind;
-            let place = r.place;
-            faulty(Cause::Single(kind), i, place)
-        }
-        Came::All => lined(s, ns),
+    if let Err((which, r)) = arrive(s, ns) {
+        return Err(Fault {
+            cause: Cause::Single(r.kind),
+            which,
+            place: r.place,
+        });
     }
-}
-
-// The first of telegrams that are all accepted.
-fn lined(s: &[u8], ns: &[usize]) -> Verdict
-    requires { Arrives s.now ns.now }
-    ensures { result ≡ verdict_of (telegrams_of s.now ns.now) }
-{
-    if !identified(s, ns) {
-        return faulty(Cause::Identity, 0, 0);
-    }
-    if !counted(s, ns) {
-        return faulty(Cause::Counters, 0, 0);
-    }
-    match miscopied(s, ns) {
-        Found::At(k) => faulty(Cause::Copied, k, 0),
-        Found::Nowhere => Verdict::Fine,
-    }
-}
-
-fn faulty(cause: Cause, which: usize, place: usize) -> Verdict
-    ensures { result ≡ Verdict.Faulty (record { cause = cause; which = which; place = place }) }
-{
-    Verdict::Faulty(Fault {
-        cause,
-        which,
-        place,
+    verdict(Accepted {
+        telegrams: Telegrams { bytes: s, ns },
     })
+}
+
+// The first fault of telegrams that are all accepted.
+fn verdict(t: Accepted<'_>) -> Result<(), Fault>
+    ensures { result ≡ verdict_of (telegrams_of t.entry.telegrams.bytes.now t.entry.telegrams.ns.now) }
+{
+    if !t.identified() {
+        return Err(of_all(Cause::Identity));
+    }
+    let line = Lined {
+        telegrams: t.telegrams,
+    };
+    if !line.counted() {
+        return Err(of_all(Cause::Counters));
+    }
+    if let Some(which) = line.miscopied() {
+        return Err(Fault {
+            cause: Cause::Copied,
+            which,
+            place: 0,
+        });
+    }
+    Ok(())
+}
+
+// The fault that has this cause and is of the group as a whole.
+fn of_all(cause: Cause) -> Fault
+    ensures { result ≡ fault cause 0 0 }
+{
+    Fault {
+        cause,
+        which: 0,
+        place: 0,
+    }
 }

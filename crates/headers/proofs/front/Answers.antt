@@ -1,13 +1,13 @@
 -- `headers::front` meets its contract. Assumes nothing.
-use Rattle.headers.proofs.Fronts.{front_outside, front_short, front_window}
 use native.Mathlib.Omega.{arith}
+use Rattle.headers.proofs.Fronts.{front_outside, front_short, front_window}
 use Rattle.headers.proofs.front.Goals as goal
 
-pub returns-then-s-start : goal.returns-then-s-start
-returns-then-s-start c = front_outside c.args.s.now c.args.start c.if-s-start.true
+pub returns-in_default : goal.returns-in_default
+returns-in_default c = front_outside c.args.s.now c.args.start (omega (arith, c.in_default.ensures.lookup.0))
 
-pub returns-then-s-start-lt8 : goal.returns-then-s-start-lt8
-returns-then-s-start-lt8 c = front_short c.args.s.now c.args.start c.if-s-start-lt8.true
+pub returns-in_default-t : goal.returns-in_default-t
+returns-in_default-t c = front_short c.args.s.now c.args.start (omega (arith, c.in-Some.ensures.lookup.0.3, c.in_default-t.len_below))
 
 pub returns : goal.returns
-returns c = front_window c.args.s.now c.args.start (omega (arith, c.if-s-start.false)) (λ h. omega (arith, c.if-s-start-lt8.false, h)) (λ i. (c.type_inv.s i).fits) _ c.window.ensures
+returns c = front_window c.args.s.now c.args.start _ c.in-Some.ensures.lookup.0.2 c.in-len8-up.len_at_least (λ i. (c.type_inv.s i).fits) _ c.window.ensures
