@@ -1,18 +1,17 @@
 -- Answers as text. Definitions alone.
-use Rattle.std.specs.Prelude.{◌≡◌, List, ◌++◌, ℕ, length, take}
-use Rattle.format.specs.declared.Answer.{Answer}
-use Rattle.format.specs.declared.Answer.TheVariants.{Accepted, Refused}
+use Rattle.std.specs.Prelude.{◌≡◌, List, ◌++◌, ℕ, length, take, Ok, Err}
 use Rattle.pieces.specs.Numbers.{decimal}
 use Rattle.queue_text.specs.Texts.{space, newline, ok_word, refusal_text}
 use Rattle.answers.specs.Lines.{answer_to}
+use Rattle.format.specs.Refusals.{Answer}
 
 abbrev pub accepted : ℕ → ℕ → List ℕ
 accepted n count = ok_word ++ decimal n ++ space ++ decimal count ++ newline
 
 -- "prints per line `ok`, n, value count, or `refused`, number, place"
 unfoldable pub text_of : ℕ → Answer → List ℕ
-text_of n (Accepted count) = accepted n count
-text_of n (Refused r) = refusal_text r
+text_of n (Ok count) = accepted n count
+text_of n (Err r) = refusal_text r
 
 -- what is printed for a line
 abbrev pub response_to : List ℕ → List ℕ

@@ -6,8 +6,7 @@ ghost use Rattle.answers.specs.Lines.{answer_to, no_telegram};
 ghost use Rattle.answers.specs.Text.{accepted, text_of, response_to, TellsLine};
 ghost use Rattle.queue.specs.Waiting.{Joins};
 
-use format::{Answer, Kind, Refusal};
-use packing::Packed;
+use format::{Kind, Refusal};
 use queue::Queue;
 
 // No telegram has more than 830 bits. A line of 831 characters or more is refused for that, whatever they are.
@@ -28,36 +27,29 @@ pub fn respond(line: &[u8], out: &mut [u8], q: Queue) -> Queue
 }
 
 // What the check answers of the telegram that a line writes. A line with another character is refused as one of a wrong length is.
-fn answer(line: &[u8]) -> Answer
+fn answer(line: &[u8]) -> Result<usize, Refusal>
     ensures { result ≡ answer_to line.now }
 {
     let mut s = [0u8; 104];
-    match packing::pack(line, &mut s) {
-        Packed::Bits(n) => {
-            let k = bits::bytes_for(n);
-            telegram::check(&s[..k], n)
-        }
-        Packed::Other => no_telegram(),
-        Packed::Room => no_telegram(),
-    }
+    let Ok(n) = packing::pack(line, &mut s) else {
+        return no_telegram();
+    };
+    telegram::check(&s[..bits::bytes_for(n)], n)
 }
 
-fn no_telegram() -> Answer
+fn no_telegram() -> Result<usize, Refusal>
     ensures { result ≡ no_telegram }
 {
-    Answer::Refused(Refusal {
-        kind: Kind::Size,
-        place: 0,
-    })
+    Err(Refusal::at_once(Kind::Size))
 }
 
 // Puts the line that tells an answer: `ok`, n and the count of values, or `refused`, number and place.
-fn tell(out: &mut [u8], q: Queue, n: usize, answer: Answer) -> Queue
+fn tell(out: &mut [u8], q: Queue, n: usize, answer: Result<usize, Refusal>) -> Queue
     ensures { Joins (text_of n answer) q out.old result out.new }
 {
     match answer {
-        Answer::Accepted(count) => accepted(out, q, n as u64, count as u64),
-        Answer::Refused(r) => queue_text::refused(out, q, r),
+        Ok(count) => accepted(out, q, n as u64, count as u64),
+        Err(r) => queue_text::refused(out, q, r),
     }
 }
 

@@ -2,100 +2,78 @@
 // edge and over nine bytes, fields of no bits, and whatever is no field, up to the largest numbers there are.
 #![tactic(auto)]
 
-use bits::{Cursor, Taken};
+use bits::Cursor;
+use std::io;
 
-// The number of standard output.
-const STDOUT: i32 = 1;
+// The first n bits of nine bytes, in which a field of width bits begins at the bit at.
+const TAKES: [(usize, usize, usize); 18] = [
+    (72, 0, 8),
+    (72, 4, 8),
+    (72, 7, 3),
+    (72, 8, 57),
+    (72, 4, 64),
+    (72, 8, 64),
+    (72, 9, 63),
+    (72, 72, 0),
+    (71, 63, 8),
+    (0, 0, 0),
+    (72, 73, 0),
+    (71, 64, 8),
+    (73, 0, 8),
+    (72, 0, 65),
+    (64, usize::MAX, 64),
+    (usize::MAX, 0, 64),
+    (72, 0, usize::MAX),
+    (usize::MAX, usize::MAX, usize::MAX),
+];
 
-fn main() {
-    takes();
-    puts();
-}
+// Where a field of width bits is put, and what it is to hold.
+const PUTS: [(usize, usize, u64); 12] = [
+    (0, 8, 90),
+    (4, 8, 195),
+    (5, 60, 81985529216486895),
+    (8, 64, u64::MAX),
+    (71, 1, 0),
+    (72, 0, 0),
+    (72, 1, 1),
+    (0, 8, 256),
+    (0, 65, 0),
+    (9, 64, 0),
+    (usize::MAX, 3, 0),
+    (0, 0, 1),
+];
 
-fn takes() {
-    take_row(72, 0, 8);
-    take_row(72, 4, 8);
-    take_row(72, 7, 3);
-    take_row(72, 8, 57);
-    take_row(72, 4, 64);
-    take_row(72, 8, 64);
-    take_row(72, 9, 63);
-    take_row(72, 72, 0);
-    take_row(71, 63, 8);
-    take_row(0, 0, 0);
-    take_row(72, 73, 0);
-    take_row(71, 64, 8);
-    take_row(73, 0, 8);
-    take_row(72, 0, 65);
-    take_row(64, 18446744073709551615, 64);
-    take_row(18446744073709551615, 0, 64);
-    take_row(72, 0, 18446744073709551615);
-    take_row(
-        18446744073709551615,
-        18446744073709551615,
-        18446744073709551615,
-    );
-}
-
-fn puts() {
-    put_row(0, 8, 90);
-    put_row(4, 8, 195);
-    put_row(5, 60, 81985529216486895);
-    put_row(8, 64, 18446744073709551615);
-    put_row(71, 1, 0);
-    put_row(72, 0, 0);
-    put_row(72, 1, 1);
-    put_row(0, 8, 256);
-    put_row(0, 65, 0);
-    put_row(9, 64, 0);
-    put_row(18446744073709551615, 3, 0);
-    put_row(0, 0, 1);
+fn main(rt: HostRuntime) -> io::Result<()> {
+    for (n, at, width) in TAKES {
+        take_row(rt, n, at, width)?;
+    }
+    for (at, width, value) in PUTS {
+        put_row(rt, at, width, value)?;
+    }
+    Ok(())
 }
 
 // Takes the field of width bits at the bit at, of the first n bits of nine bytes.
-fn take_row(n: usize, at: usize, width: usize) {
+fn take_row(rt: HostRuntime, n: usize, at: usize, width: usize) -> io::Result<()> {
     let s = b"\x01\x23\x45\x67\x89\xab\xcd\xef\x12";
-    word(b"take of ", n as u64);
-    word(b" at ", at as u64);
-    word(b" width ", width as u64);
-    let c = Cursor { at };
-    match c.take(s, n, width) {
-        Taken::Field(value, next) => {
-            word(b": ", value);
-            word(b", next ", next.at as u64);
-        }
-        Taken::Short => {
-            io::write_all(STDOUT, b": short");
-        }
+    print!(rt; "take of {n} at {at} width {width}: ")?;
+    match (Cursor { at }).take(s, n, width) {
+        Some((value, next)) => println!(rt; "{value}, next {}", next.at),
+        None => println!(rt; "short"),
     }
-    io::write_all(STDOUT, b"\n");
 }
 
 // Puts the field over nine bytes of 165, so that a neighbour that changes shows, whichever way.
-fn put_row(at: usize, width: usize, value: u64) {
+fn put_row(rt: HostRuntime, at: usize, width: usize, value: u64) -> io::Result<()> {
     let mut out = [165u8; 9];
-    word(b"put at ", at as u64);
-    word(b" width ", width as u64);
-    word(b" value ", value);
-    if store::put(&mut out, at, width, value) {
-        io::write_all(STDOUT, b": wrote");
+    let answer = if store::put(&mut out, at, width, value) {
+        "wrote"
     } else {
-        io::write_all(STDOUT, b": left ");
+        "left "
+    };
+    print!(rt; "put at {at} width {width} value {value}: {answer}")?;
+    for b in out {
+        print!(rt; " {b:02x}")?;
     }
-    print_bytes(&out);
-}
-
-fn word(text: &[u8], n: u64) {
-    io::write_all(STDOUT, text);
-    io::print_decimal(STDOUT, n);
-}
-
-fn print_bytes(s: &[u8]) {
-    let mut i = 0;
-    while i < s.len() {
-        io::write_all(STDOUT, b" ");
-        io::print_hex(STDOUT, s[i] as u64, 2);
-        i += 1;
-    }
-    io::write_all(STDOUT, b"\n");
+    println!(rt)
 }

@@ -11,9 +11,9 @@ ghost use Rattle.queue.specs.Waiting.{Joins};
 use blocks::Input;
 use queue::Queue;
 
-// The number of standard error.
-const STDERR: i32 = 2;
-
+// One of three programs of this shape (lines, vectors, groups): what they share is in line_by_line, but for this loop and `finish`, since a function that
+// all three call would be public and ask for `Answered`, and no public function here asks anything of who calls it.
+//
 // A proved loop has to end, and nothing says that the input does. So the loop counts its turns down, from a number that no run
 // uses up.
 fn main(rt: HostRuntime) {
@@ -31,7 +31,7 @@ fn main(rt: HostRuntime) {
         q = answered(&line, input, &mut out, q);
         turns -= 1;
     }
-    finish(&out, input, q);
+    finish(rt, &out, input, q);
 }
 
 // Puts the answer to what is kept of the line in hand, if that is whole.
@@ -48,14 +48,14 @@ fn answered(line: &[u8], input: Input, out: &mut [u8], q: Queue) -> Queue
 
 // Writes the last answers: with them all lines that were read are answered. What could not be read or written is said on standard error, since
 // standard output lacks it.
-fn finish(out: &[u8], input: Input, q: Queue)
+fn finish(rt: HostRuntime, out: &[u8], input: Input, q: Queue)
     requires { Answered response_to input out.now q }
 {
     let last = queue::flush(out, q);
     if input.failed {
-        io::write_all(STDERR, b"lines: reading failed\n");
+        let _ = eprintln!(rt; "lines: reading failed");
     }
     if last.lost {
-        io::write_all(STDERR, b"lines: writing failed\n");
+        let _ = eprintln!(rt; "lines: writing failed");
     }
 }

@@ -1,4 +1,5 @@
 -- Lines by their letter, and what stands behind it. Assumes nothing.
+use Rattle.std.specs.Prelude.{Some, None, Option, ℕ}
 use mathlib.Core.Path.{◌≡◌, refl, sym, ap, ◌∙◌}
 use mathlib.Core.Bool.{Bool, true, false}
 use mathlib.Core.List.{List, [], ◌∷◌}
@@ -11,8 +12,6 @@ use Rattle.answer_text.specs.Texts.{no_question}
 use Rattle.replies.specs.Replies.{bits_text, write_text}
 use Rattle.questions.specs.Questions.{written, values_behind, bits_behind, asked, reply_to}
 use Rattle.value_list.specs.Values.{values_in, Taken}
-use Rattle.value_list.specs.declared.Values.{Values}
-use Rattle.value_list.specs.declared.Values.TheVariants.{Count, Other}
 use Rattle.value_list.proofs.Answers.{taken_whole, taken_other}
 
 -- the part from 1 to the end
@@ -73,16 +72,16 @@ module _ (normal : Bool) where
 
 -- ---- behind `w`
 
-module _ (text before : List ℕ) (x : Values) (after : List ℕ) (room : length before ≡ 1000) (h : Taken text before x after) where
-  pub count_within : (n : ℕ) → x ≡ Count n → n ≤ length after
+module _ (text before : List ℕ) (x : Option ℕ) (after : List ℕ) (room : length before ≡ 1000) (h : Taken text before x after) where
+  pub count_within : (n : ℕ) → x ≡ Some n → n ≤ length after
   count_within n e = (taken_whole text before x after h n e).inside
 
   of_room : written (values_in (length before) text) ≡ values_behind text
   unfolding values_behind
   of_room = ap (λ (k : ℕ). written (values_in k text)) room
 
-  pub values_some : (n : ℕ) → x ≡ Count n → write_text (take n after) ≡ values_behind text
+  pub values_some : (n : ℕ) → x ≡ Some n → write_text (take n after) ≡ values_behind text
   values_some n e = sym (ap written (taken_whole text before x after h n e).values) ∙ of_room
 
-  pub values_none : x ≡ Other → no_question ≡ values_behind text
+  pub values_none : x ≡ None → no_question ≡ values_behind text
   values_none e = sym (ap written (taken_other text before x after h e)) ∙ of_room

@@ -5,7 +5,6 @@ ghost use Rattle.queue.specs.Waiting.{Joins};
 ghost use Rattle.questions.specs.Questions.{reply_to, bits_behind, values_behind};
 
 use queue::Queue;
-use value_list::Values;
 
 // Puts the answer to a line. A line that is no question is told so.
 pub fn respond(line: &[u8], out: &mut [u8], q: Queue) -> Queue
@@ -47,7 +46,7 @@ fn of_values(rest: &[u8], out: &mut [u8], q: Queue) -> Queue
 {
     let mut values = [0u64; 1000];
     match value_list::values_in(rest, &mut values) {
-        Values::Count(n) => replies::of_values(&values[..n], out, q),
-        Values::Other => answer_text::no_question(out, q),
+        Some(n) => replies::of_values(&values[..n], out, q),
+        None => answer_text::no_question(out, q),
     }
 }

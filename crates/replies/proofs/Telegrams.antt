@@ -1,4 +1,5 @@
 -- What the reader, the writer and the normaliser leave, as text: where they are lent enough, that of the definitions. Assumes nothing.
+use Rattle.std.specs.Prelude.{Ok, Err}
 use mathlib.Core.Path.{◌≡◌, refl, sym, ap, ap₂, ◌∙◌}
 use mathlib.Core.List.{List, ◌++◌}
 use Prim.Native.Nat.{ℕ, ◌≤◌}
@@ -11,8 +12,6 @@ use Rattle.bits.proofs.Bytes.{length_bits_of, bits_of_append, length_bytes_of, t
 use Rattle.format.specs.Rules.{paper}
 use Rattle.format.specs.Telegrams.{Result, bits, values, bit_count, write}
 use Rattle.format.specs.Telegrams.Result.{accepted, refused}
-use Rattle.format.specs.declared.Answer.{Answer}
-use Rattle.format.specs.declared.Answer.TheVariants.{Accepted, Refused}
 use Rattle.format.specs.declared.Refusal.{Refusal}
 use Rattle.laws.proofs.Demand2.{length_bits, below_bits}
 use Rattle.queue_text.specs.Texts.{refusal_text}
@@ -22,6 +21,7 @@ use Rattle.states.specs.Writer.{write_into, size_of, bytes_over, Write}
 use Rattle.states.proofs.Answered.{read_answer, write_answer, normalise_answer}
 use Rattle.states.proofs.Rooms.{with_room}
 use Rattle.replies.specs.Replies.{values_or, bits_or, read_text, normal_text, write_text}
+use Rattle.format.specs.Refusals.{Answer}
 
 -- ---- bits
 
@@ -64,13 +64,13 @@ module _ {before after : List ℕ} {a : Answer} (l : length before ≡ 104) wher
 
 -- ---- values
 
-within : (x : Result) (before after : List ℕ) (count : ℕ) → after ≡ values_over x before → answer_of x ≡ Accepted count → count ≤ length after
+within : (x : Result) (before after : List ℕ) (count : ℕ) → after ≡ values_over x before → answer_of x ≡ Ok count → count ≤ length after
 within (accepted es) before after count e g =
     let same : length (values es) ≡ count = cc in
     omega (arith, ap length e ∙ length-append (values es) (drop (length (values es)) before))
 within (refused r) before after count e g = let z : ◌≡◌ {A = ℕ} 0 1 = cc in absurd (omega arith)
 
-listed_as : (x : Result) (before after : List ℕ) (count : ℕ) → after ≡ values_over x before → answer_of x ≡ Accepted count
+listed_as : (x : Result) (before after : List ℕ) (count : ℕ) → after ≡ values_over x before → answer_of x ≡ Ok count
     → listed (take count after) ≡ values_or x
 listed_as (accepted es) before after count e g =
     let same : count ≡ length (values es) = cc in
@@ -79,7 +79,7 @@ listed_as (accepted es) before after count e g =
     ∙ take-append_seam (values es) (drop (length (values es)) before))
 listed_as (refused r) before after count e g = let z : ◌≡◌ {A = ℕ} 0 1 = cc in absurd (omega arith)
 
-refused_as : (x : Result) (r : Refusal) → answer_of x ≡ Refused r → refusal_text r ≡ values_or x
+refused_as : (x : Result) (r : Refusal) → answer_of x ≡ Err r → refusal_text r ≡ values_or x
 refused_as (accepted es) r g = let z : ◌≡◌ {A = ℕ} 0 1 = cc in absurd (omega arith)
 refused_as (refused s) r g = let same : r ≡ s = cc in ap refusal_text same
 
@@ -88,14 +88,14 @@ module _ (s : List ℕ) (n : ℕ) (before after : List ℕ) (a : Answer) (l : le
   unfolding read_into
   into = with_room 830 (length before) (checked paper s n) (omega arith)
 
-  pub read_within : (count : ℕ) → a ≡ Accepted count → count ≤ length after
+  pub read_within : (count : ℕ) → a ≡ Ok count → count ≤ length after
   read_within count e = within (read_into paper s n (length before)) before after count h.contents (sym (read_answer h) ∙ e)
 
-  pub read_listed : (count : ℕ) → a ≡ Accepted count → listed (take count after) ≡ read_text s n
+  pub read_listed : (count : ℕ) → a ≡ Ok count → listed (take count after) ≡ read_text s n
   unfolding read_text
   read_listed count e =
       listed_as (read_into paper s n (length before)) before after count h.contents (sym (read_answer h) ∙ e) ∙ ap values_or into
 
-  pub read_refused : (r : Refusal) → a ≡ Refused r → refusal_text r ≡ read_text s n
+  pub read_refused : (r : Refusal) → a ≡ Err r → refusal_text r ≡ read_text s n
   unfolding read_text
   read_refused r e = refused_as (read_into paper s n (length before)) r (sym (read_answer h) ∙ e) ∙ ap values_or into

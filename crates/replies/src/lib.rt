@@ -4,8 +4,6 @@
 ghost use Rattle.queue.specs.Waiting.{Joins};
 ghost use Rattle.replies.specs.Replies.{read_text, normal_text, write_text, bits_text};
 
-use format::Answer;
-use packing::Packed;
 use queue::Queue;
 
 // Puts the answer to a line of characters 0 and 1: the values of the telegram that it writes, or its normal form, or what refuses it. A
@@ -14,18 +12,14 @@ pub fn of_bits(line: &[u8], normal: bool, out: &mut [u8], q: Queue) -> Queue
     ensures { Joins (bits_text normal line.now) q out.old result out.new }
 {
     let mut s = [0u8; 125];
-    match packing::pack(line, &mut s) {
-        Packed::Bits(n) => {
-            let k = bits::bytes_for(n);
-            let t = &s[..k];
-            if normal {
-                return normalise(t, n, out, q);
-            }
-            read(t, n, out, q)
-        }
-        Packed::Other => answer_text::no_question(out, q),
-        Packed::Room => answer_text::no_question(out, q),
+    let Ok(n) = packing::pack(line, &mut s) else {
+        return answer_text::no_question(out, q);
+    };
+    let t = &s[..bits::bytes_for(n)];
+    if normal {
+        return normalise(t, n, out, q);
     }
+    read(t, n, out, q)
 }
 
 // Puts the bits of the telegram with these values, or what refuses it.
@@ -43,8 +37,8 @@ fn read(s: &[u8], n: usize, out: &mut [u8], q: Queue) -> Queue
 {
     let mut run = [0u64; 830];
     match telegram::read(s, n, &mut run) {
-        Answer::Accepted(count) => answer_text::listed(&run[..count], out, q),
-        Answer::Refused(r) => queue_text::refused(out, q, r),
+        Ok(count) => answer_text::listed(&run[..count], out, q),
+        Err(r) => queue_text::refused(out, q, r),
     }
 }
 

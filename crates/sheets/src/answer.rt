@@ -13,7 +13,7 @@ pub(crate) fn from_start_of_line(read: &[u8], n: usize, out: &mut [u8]) -> usize
     printed::from_line(&read[..n], out)
 }
 
-// The same of a sheet.
+// The same of a sheet. The two call different functions and promise different texts: one function for both would take a trait to say so.
 pub(crate) fn from_start_of_sheet(read: &[u8], n: usize, out: &mut [u8]) -> usize
     requires { TellsSheet (length read.now) × (n ≤ length read.now) × (1024 ≤ length out.old) }
     ensures { (input : List ℕ) → Holds read.now n input → Grown out.old (in_text input) result out.new }

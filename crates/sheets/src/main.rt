@@ -9,16 +9,8 @@ ghost use Rattle.sheets.specs.Input.{Prints};
 mod answer;
 
 use crate::answer::{from_start_of_line, from_start_of_sheet};
-use blocks::Filled;
 use filling::fill;
 use std::env::{Env, FillError};
-use std::io::Stdin;
-
-// The number of standard output.
-const STDOUT: i32 = 1;
-
-// The number of standard error.
-const STDERR: i32 = 2;
 
 // What the arguments ask for.
 #[derive(Clone, Copy)]
@@ -30,9 +22,9 @@ enum Way {
 
 fn main(rt: HostRuntime) {
     match asked(rt) {
-        Way::Out => out(rt.stdin()),
-        Way::In => take_in(rt.stdin()),
-        Way::Other => usage(),
+        Way::Out => out(rt),
+        Way::In => take_in(rt),
+        Way::Other => usage(rt),
     }
 }
 
@@ -50,80 +42,66 @@ fn asked(rt: HostRuntime) -> Way {
 
 // Whether the program has an argument of this number.
 fn is_there(rt: HostRuntime, number: usize) -> bool {
-    let mut space = [0u8; 3];
-    match rt.arg(number, &mut space) {
-        Ok(_) => true,
-        Err(FillError::TooLong) => true,
-        Err(FillError::NotPresent) => false,
-    }
+    !matches!(rt.arg(number, &mut []), Err(FillError::NotPresent))
 }
 
 fn meant(word: &[u8]) -> Way {
-    if is(word, b"out") {
-        return Way::Out;
+    match word {
+        b"out" => Way::Out,
+        b"in" => Way::In,
+        _ => Way::Other,
     }
-    if is(word, b"in") {
-        return Way::In;
-    }
-    Way::Other
-}
-
-fn is(word: &[u8], other: &[u8]) -> bool {
-    if word.len() != other.len() {
-        return false;
-    }
-    pieces::begins(word, 0, other)
 }
 
 // No more of a line is read than tells what is printed for it.
-fn out(stdin: Stdin) {
+fn out(rt: HostRuntime) {
     let mut input = printed::line_buffer();
-    let Filled::Bytes(n) = fill(stdin, &mut input) else {
-        return unread();
+    let Ok(n) = fill(rt.stdin(), &mut input) else {
+        return unread(rt);
     };
     let mut text = io::large_buffer();
     let end = from_start_of_line(&input, n, &mut text);
-    print_sheet(&text[..end]);
+    print_sheet(rt, &text[..end]);
 }
 
 // A header takes 21 bytes and no row more than 43. So 35,712 bytes tell whether each of 830 rows is one and whether more follows, and no
 // more than a buffer is read.
-fn take_in(stdin: Stdin) {
+fn take_in(rt: HostRuntime) {
     let mut input = io::large_buffer();
-    let Filled::Bytes(n) = fill(stdin, &mut input) else {
-        return unread();
+    let Ok(n) = fill(rt.stdin(), &mut input) else {
+        return unread(rt);
     };
     let mut text = [0u8; 1024];
     let end = from_start_of_sheet(&input, n, &mut text);
-    print_line(&text[..end]);
+    print_line(rt, &text[..end]);
 }
 
-// The sheet of the line that was read, or why there is none.
-fn print_sheet(text: &[u8])
+// The sheet of the line that was read, or why there is none. This and the next print alike and differ in what is asked of the text alone.
+fn print_sheet(rt: HostRuntime, text: &[u8])
     requires { Prints out_text text.now }
 {
-    print(text);
+    print(rt, text);
 }
 
 // The line of the sheet that was read, or why there is none.
-fn print_line(text: &[u8])
+fn print_line(rt: HostRuntime, text: &[u8])
     requires { Prints in_text text.now }
 {
-    print(text);
+    print(rt, text);
 }
 
 // An input that cannot be read to its end gets no answer.
-fn unread() {
-    io::write_all(STDERR, b"sheets: reading failed\n");
+fn unread(rt: HostRuntime) {
+    let _ = rt.stderr().write_all(b"sheets: reading failed\n");
 }
 
-fn usage() {
-    print(b"usage: sheets out | in\n");
+fn usage(rt: HostRuntime) {
+    print(rt, b"usage: sheets out | in\n");
 }
 
 // A write that fails is told: a part of a sheet does not say that it is one.
-fn print(text: &[u8]) {
-    if !io::write_all(STDOUT, text) {
-        io::write_all(STDERR, b"sheets: writing failed\n");
+fn print(rt: HostRuntime, text: &[u8]) {
+    if rt.stdout().write_all(text).is_err() {
+        let _ = rt.stderr().write_all(b"sheets: writing failed\n");
     }
 }

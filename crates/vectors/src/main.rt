@@ -18,9 +18,9 @@ ghost use Rattle.vectors.specs.Lines.{answer_to};
 use blocks::Input;
 use queue::Queue;
 
-// The number of standard error.
-const STDERR: i32 = 2;
-
+// One of three programs of this shape (lines, vectors, groups): what they share is in line_by_line, but for this loop and `finish`, since a function that
+// all three call would be public and ask for `Answered`, and no public function here asks anything of who calls it.
+//
 // A proved loop has to end, and nothing says that the input does. So the loop counts its turns down, from a number that no run
 // uses up.
 fn main(rt: HostRuntime) {
@@ -38,7 +38,7 @@ fn main(rt: HostRuntime) {
         q = answered(&line, input, &mut out, q);
         turns -= 1;
     }
-    finish(&out, input, q);
+    finish(rt, &out, input, q);
 }
 
 // Puts the answer to the line in hand, if it is whole. Of one that fills what is lent for it, more may be missing.
@@ -58,14 +58,14 @@ fn answered(line: &[u8], input: Input, out: &mut [u8], q: Queue) -> Queue
 
 // Writes the last answers: with them all lines that were read are answered. What could not be read or written is said on standard error, since
 // standard output lacks it.
-fn finish(out: &[u8], input: Input, q: Queue)
+fn finish(rt: HostRuntime, out: &[u8], input: Input, q: Queue)
     requires { Answered answer_to input out.now q }
 {
     let last = queue::flush(out, q);
     if input.failed {
-        io::write_all(STDERR, b"vectors: reading failed\n");
+        let _ = eprintln!(rt; "vectors: reading failed");
     }
     if last.lost {
-        io::write_all(STDERR, b"vectors: writing failed\n");
+        let _ = eprintln!(rt; "vectors: writing failed");
     }
 }

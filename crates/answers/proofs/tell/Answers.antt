@@ -2,10 +2,10 @@
 use Rattle.answers.specs.Text.{text_of}
 use Rattle.answers.proofs.tell.Goals as goal
 
-pub returns-in-Accepted : goal.returns-in-Accepted
+pub returns-in-Ok : goal.returns-in-Ok
 unfolding text_of
-returns-in-Accepted c = rw c.in-Accepted.is c.accepted.ensures
+returns-in-Ok c = rw c.in-Ok.is c.accepted.ensures
 
-pub returns-in-Refused : goal.returns-in-Refused
+pub returns-in-Err : goal.returns-in-Err
 unfolding text_of
-returns-in-Refused c = rw c.in-Refused.is c.refused.ensures
+returns-in-Err c = rw c.in-Err.is c.refused.ensures

@@ -7,14 +7,14 @@ use Rattle.questions.proofs.Letters.{count_within, values_some, values_none}
 use Rattle.questions.proofs.of_values.Goals as goal
 
 pub slice_bounds-values-end : goal.slice_bounds-values-end
-slice_bounds-values-end c = count_within c.args.rest.now _ _ _ (omega arith) c.values_in.ensures _ c.in-Count.is
+slice_bounds-values-end c = count_within c.args.rest.now _ _ _ (omega arith) c.values_in.ensures _ c.in-Some.is
 
 pub slice_bounds-of_values-end : goal.slice_bounds-of_values-end
 slice_bounds-of_values-end c =
-    sym (length-take-le _ _ ((count_within c.args.rest.now _ _ _ (omega arith) c.values_in.ensures _ c.in-Count.is)))
+    sym (length-take-le _ _ ((count_within c.args.rest.now _ _ _ (omega arith) c.values_in.ensures _ c.in-Some.is)))
 
-pub returns-in-Count : goal.returns-in-Count
-returns-in-Count c = joins_as (values_some c.args.rest.now _ _ _ (omega arith) c.values_in.ensures _ c.in-Count.is) c.of_values.ensures
+pub returns-in-Some : goal.returns-in-Some
+returns-in-Some c = joins_as (values_some c.args.rest.now _ _ _ (omega arith) c.values_in.ensures _ c.in-Some.is) c.of_values.ensures
 
-pub returns-in-Other : goal.returns-in-Other
-returns-in-Other c = joins_as (values_none c.args.rest.now _ _ _ (omega arith) c.values_in.ensures c.in-Other.is) c.no_question.ensures
+pub returns-in-None : goal.returns-in-None
+returns-in-None c = joins_as (values_none c.args.rest.now _ _ _ (omega arith) c.values_in.ensures c.in-None.is) c.no_question.ensures

@@ -6,14 +6,14 @@ use Rattle.replies.proofs.Telegrams.{read_within, read_listed, read_refused}
 use Rattle.replies.proofs.read.Goals as goal
 
 pub slice_bounds-run-end : goal.slice_bounds-run-end
-slice_bounds-run-end c = read_within c.args.s.now c.args.n _ _ _ refl c.read.ensures _ c.in-Accepted.is
+slice_bounds-run-end c = read_within c.args.s.now c.args.n _ _ _ refl c.read.ensures _ c.in-Ok.is
 
 pub slice_bounds-listed-end : goal.slice_bounds-listed-end
 slice_bounds-listed-end c =
-    sym (length-take-le _ _ ((read_within c.args.s.now c.args.n _ _ _ refl c.read.ensures _ c.in-Accepted.is)))
+    sym (length-take-le _ _ ((read_within c.args.s.now c.args.n _ _ _ refl c.read.ensures _ c.in-Ok.is)))
 
-pub returns-in-Accepted : goal.returns-in-Accepted
-returns-in-Accepted c = joins_as (read_listed c.args.s.now c.args.n _ _ _ refl c.read.ensures _ c.in-Accepted.is) c.listed.ensures
+pub returns-in-Ok : goal.returns-in-Ok
+returns-in-Ok c = joins_as (read_listed c.args.s.now c.args.n _ _ _ refl c.read.ensures _ c.in-Ok.is) c.listed.ensures
 
-pub returns-in-Refused : goal.returns-in-Refused
-returns-in-Refused c = joins_as (read_refused c.args.s.now c.args.n _ _ _ refl c.read.ensures _ c.in-Refused.is) c.refused.ensures
+pub returns-in-Err : goal.returns-in-Err
+returns-in-Err c = joins_as (read_refused c.args.s.now c.args.n _ _ _ refl c.read.ensures _ c.in-Err.is) c.refused.ensures

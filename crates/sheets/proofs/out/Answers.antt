@@ -13,20 +13,20 @@ use Rattle.sheets.proofs.out.Goals as goal
 
 pub from_start_of_line-end-requires : goal.from_start_of_line-end-requires
 from_start_of_line-end-requires c =
-    let read_within : c.in-Bytes.n ≤ length c.fill.new.buffer = subst (Within _) c.in-Bytes.is c.fill.ensures in
+    let read_within : c.in-Ok.n ≤ length c.fill.new.buffer = subst (Within _) c.in-Ok.is c.fill.ensures in
     (tells_as c.line_buffer-input.ensures (omega arith), read_within, omega arith)
 
 pub slice_bounds-text-end : goal.slice_bounds-text-end
 slice_bounds-text-end c =
-    let read_within : c.in-Bytes.n ≤ length c.fill.new.buffer = subst (Within _) c.in-Bytes.is c.fill.ensures in
+    let read_within : c.in-Ok.n ≤ length c.fill.new.buffer = subst (Within _) c.in-Ok.is c.fill.ensures in
     grown_within (c.from_start_of_line-end.ensures _ (held _ _ (read_within)))
 
 pub slice_bounds-print_sheet-end : goal.slice_bounds-print_sheet-end
 slice_bounds-print_sheet-end c =
-    let read_within : c.in-Bytes.n ≤ length c.fill.new.buffer = subst (Within _) c.in-Bytes.is c.fill.ensures in
+    let read_within : c.in-Ok.n ≤ length c.fill.new.buffer = subst (Within _) c.in-Ok.is c.fill.ensures in
     sym (length-take-le _ _ ((grown_within (c.from_start_of_line-end.ensures _ (held _ _ (read_within))))))
 
 pub print_sheet-requires : goal.print_sheet-requires
 print_sheet-requires c =
-    let read_within : c.in-Bytes.n ≤ length c.fill.new.buffer = subst (Within _) c.in-Bytes.is c.fill.ensures in
+    let read_within : c.in-Ok.n ≤ length c.fill.new.buffer = subst (Within _) c.in-Ok.is c.fill.ensures in
     grown_prints out_text _ _ (read_within) c.from_start_of_line-end.ensures

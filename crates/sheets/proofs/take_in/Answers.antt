@@ -14,20 +14,20 @@ use Rattle.sheets.proofs.take_in.Goals as goal
 
 pub from_start_of_sheet-end-requires : goal.from_start_of_sheet-end-requires
 from_start_of_sheet-end-requires c =
-    let read_within : c.in-Bytes.n ≤ length c.fill.new.buffer = subst (Within _) c.in-Bytes.is c.fill.ensures in
+    let read_within : c.in-Ok.n ≤ length c.fill.new.buffer = subst (Within _) c.in-Ok.is c.fill.ensures in
     (in_kept _ (omega arith), read_within, omega arith)
 
 pub slice_bounds-text-end : goal.slice_bounds-text-end
 slice_bounds-text-end c =
-    let read_within : c.in-Bytes.n ≤ length c.fill.new.buffer = subst (Within _) c.in-Bytes.is c.fill.ensures in
+    let read_within : c.in-Ok.n ≤ length c.fill.new.buffer = subst (Within _) c.in-Ok.is c.fill.ensures in
     grown_within (c.from_start_of_sheet-end.ensures _ (held _ _ (read_within)))
 
 pub slice_bounds-print_line-end : goal.slice_bounds-print_line-end
 slice_bounds-print_line-end c =
-    let read_within : c.in-Bytes.n ≤ length c.fill.new.buffer = subst (Within _) c.in-Bytes.is c.fill.ensures in
+    let read_within : c.in-Ok.n ≤ length c.fill.new.buffer = subst (Within _) c.in-Ok.is c.fill.ensures in
     sym (length-take-le _ _ ((grown_within (c.from_start_of_sheet-end.ensures _ (held _ _ (read_within))))))
 
 pub print_line-requires : goal.print_line-requires
 print_line-requires c =
-    let read_within : c.in-Bytes.n ≤ length c.fill.new.buffer = subst (Within _) c.in-Bytes.is c.fill.ensures in
+    let read_within : c.in-Ok.n ≤ length c.fill.new.buffer = subst (Within _) c.in-Ok.is c.fill.ensures in
     grown_prints in_text _ _ (read_within) c.from_start_of_sheet-end.ensures

@@ -41,43 +41,43 @@ enough line out l o =
       room = omega arith;
     }
 
-pub loop-rt-init : goal.loop-rt-init
-loop-rt-init c = (c.large_buffer-block.ensures, c.large_buffer-line.ensures, refl, begun_runs c.start-input.ensures (enough _ _ c.large_buffer-line.ensures refl))
+pub loop-block-init : goal.loop-block-init
+loop-block-init c = (c.large_buffer-block.ensures, c.large_buffer-line.ensures, refl, begun_runs c.start-input.ensures (enough _ _ c.large_buffer-line.ensures refl))
 
 pub slice_bounds-next-end : goal.slice_bounds-next-end
-slice_bounds-next-end c = c.loop-rt.invariant.0
+slice_bounds-next-end c = c.loop-block.invariant.0
 
-pub slice_bounds-next-end-in-loop-rt : goal.slice_bounds-next-end-in-loop-rt
-slice_bounds-next-end-in-loop-rt c = c.loop-rt.invariant.1
+pub slice_bounds-next-end-in-loop-block : goal.slice_bounds-next-end-in-loop-block
+slice_bounds-next-end-in-loop-block c = c.loop-block.invariant.1
 
 pub slice_bounds-answered-end : goal.slice_bounds-answered-end
-slice_bounds-answered-end c = omega (arith, c.loop-rt.invariant.1)
+slice_bounds-answered-end c = omega (arith, c.loop-block.invariant.1)
 
-pub slice_bounds-answered-end-in-loop-rt : goal.slice_bounds-answered-end-in-loop-rt
-slice_bounds-answered-end-in-loop-rt c = c.loop-rt.invariant.2
+pub slice_bounds-answered-end-in-loop-block : goal.slice_bounds-answered-end-in-loop-block
+slice_bounds-answered-end-in-loop-block c = c.loop-block.invariant.2
 
 pub answered-q-requires : goal.answered-q-requires
 answered-q-requires c =
-    let turn : (c.loop-rt.input.ended ≡ false) × (0 < c.loop-rt.turns) = let l = c.loop-rt in reads_on l.input l.q l.turns (sym c.goes_on.ensures ∙ c.loop-rt-test.true) in
-    (omega (arith, c.loop-rt.invariant.1), step_fits (turn).0 c.next-input.ensures)
+    let turn : (c.loop-block.input.ended ≡ false) × (0 < c.loop-block.turns) = let l = c.loop-block in reads_on l.input l.q l.turns (sym c.goes_on.ensures ∙ c.loop-block-test.true) in
+    (omega (arith, c.loop-block.invariant.1), step_fits (turn).0 c.next-input.ensures)
 
 pub overflow_sub-turns : goal.overflow_sub-turns
 overflow_sub-turns c =
-    let turn : (c.loop-rt.input.ended ≡ false) × (0 < c.loop-rt.turns) = let l = c.loop-rt in reads_on l.input l.q l.turns (sym c.goes_on.ensures ∙ c.loop-rt-test.true) in
+    let turn : (c.loop-block.input.ended ≡ false) × (0 < c.loop-block.turns) = let l = c.loop-block in reads_on l.input l.q l.turns (sym c.goes_on.ensures ∙ c.loop-block-test.true) in
     (turn).1
 
-pub loop-rt-smaller : goal.loop-rt-smaller
-loop-rt-smaller c =
-    let turn : (c.loop-rt.input.ended ≡ false) × (0 < c.loop-rt.turns) = let l = c.loop-rt in reads_on l.input l.q l.turns (sym c.goes_on.ensures ∙ c.loop-rt-test.true) in
+pub loop-block-smaller : goal.loop-block-smaller
+loop-block-smaller c =
+    let turn : (c.loop-block.input.ended ≡ false) × (0 < c.loop-block.turns) = let l = c.loop-block in reads_on l.input l.q l.turns (sym c.goes_on.ensures ∙ c.loop-block-test.true) in
     fewer _ (turn).1
 
-pub loop-rt-preserved : goal.loop-rt-preserved
-loop-rt-preserved c =
-    let turn : (c.loop-rt.input.ended ≡ false) × (0 < c.loop-rt.turns) = let l = c.loop-rt in reads_on l.input l.q l.turns (sym c.goes_on.ensures ∙ c.loop-rt-test.true) in
-    (omega (arith, c.loop-rt.invariant.0), omega (arith, c.loop-rt.invariant.1), omega (arith, c.loop-rt.invariant.2), turns_on c.loop-rt.invariant.3 (turn).0 c.next-input.ensures c.answered-q.ensures)
+pub loop-block-preserved : goal.loop-block-preserved
+loop-block-preserved c =
+    let turn : (c.loop-block.input.ended ≡ false) × (0 < c.loop-block.turns) = let l = c.loop-block in reads_on l.input l.q l.turns (sym c.goes_on.ensures ∙ c.loop-block-test.true) in
+    (omega (arith, c.loop-block.invariant.0), omega (arith, c.loop-block.invariant.1), omega (arith, c.loop-block.invariant.2), turns_on c.loop-block.invariant.3 (turn).0 c.next-input.ensures c.answered-q.ensures)
 
 pub slice_bounds-finish-end : goal.slice_bounds-finish-end
-slice_bounds-finish-end c = c.loop-rt.invariant.2
+slice_bounds-finish-end c = c.loop-block.invariant.2
 
 pub finish-requires : goal.finish-requires
-finish-requires c = runs_answered c.loop-rt.invariant.3
+finish-requires c = runs_answered c.loop-block.invariant.3

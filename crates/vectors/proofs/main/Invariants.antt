@@ -6,8 +6,8 @@ use Rattle.line_by_line.specs.Running.{Runs}
 use Rattle.vectors.specs.Lines.{answer_to}
 use Rattle.vectors.proofs.main.Given as goal
 
-abbrev pub invariant-loop-rt : goal.invariant-loop-rt
-invariant-loop-rt l = (65536 ≡ length l.block) × (65536 ≡ length l.line) × (4096 ≡ length l.out) × Runs answer_to l.block l.line l.input l.out l.q
+abbrev pub invariant-loop-block : goal.invariant-loop-block
+invariant-loop-block l = (65536 ≡ length l.block) × (65536 ≡ length l.line) × (4096 ≡ length l.out) × Runs answer_to l.block l.line l.input l.out l.q
 
-abbrev pub decreases-loop-rt : goal.decreases-loop-rt
-decreases-loop-rt l = l.turns
+abbrev pub decreases-loop-block : goal.decreases-loop-block
+decreases-loop-block l = l.turns
