@@ -1,2 +1,3 @@
--- That the promise has one outcome.
+-- A list with the front of another over it; that the promise has one outcome.
+pub mod Pasted
 pub mod Once
