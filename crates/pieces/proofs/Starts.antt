@@ -2,15 +2,13 @@
 use mathlib.Core.Path.{◌≡◌, refl, sym, ap, ◌∙◌}
 use mathlib.Core.Bool.{Bool, true, false, ◌&&◌}
 use mathlib.Core.List.{List, [], ◌∷◌, ◌++◌}
-use Prim.Native.Nat.{ℕ, ◌+◌, ◌-◌, ◌≤◌, ◌<◌, min}
-use native.Mathlib.Nat.{lt_of_not-le}
-use native.Mathlib.Decide.{dec_le}
+use Prim.Native.Nat.{ℕ, ◌+◌, ◌-◌, ◌≤◌, ◌<◌}
+use native.Mathlib.Numerals.{add-one}
 use native.Mathlib.Omega.{arith}
-use borrow.Author.Tests.{eq-eqb, eqb-true, le-leb, lt-leb}
+use borrow.Author.Tests.{eq-eqb, ne_eqb, eqb-true, le-leb, lt-leb}
 use lib.Dec.{eqb}
-use lib.ListN.{length, take, drop, length-append, length-drop, drop_of_length-le}
-use lib.Seq.{take-length, take_all, take_at, paste, drop-append-add, drop-drop}
-use Rattle.std.specs.Cmp.Lexicographic.{pointwise}
+use lib.ListN.{length, take, drop, get_or, length-append, length-drop, drop_of_length-le}
+use lib.Seq.{drop-cons, take-length, take_all, take_at, paste, drop-append-add, drop-drop}
 use Rattle.pieces.specs.Pieces.{begins, over, past, Appended, Grown}
 
 -- ---- begins
@@ -34,28 +32,32 @@ begins_is [] text e = refl
 begins_is (c ∷ piece) [] e = cc
 begins_is (c ∷ piece) (d ∷ text) e = is_by c d piece text (begins_is piece text) (eqb c d) (begins piece text) refl refl e
 
--- as the code compares: the piece with as many characters of the text
-compared : (piece text : List ℕ) → pointwise eqb piece (take (length piece) text) ≡ begins piece text
+-- ---- the loop of `begins`
+
+module _ (piece text : List ℕ) (i j : ℕ) (h : i < length piece) where
+  piece_at : drop i piece ≡ get_or piece i 0 ∷ drop (i + 1) piece
+  piece_at = drop-cons piece i 0 h ∙ ap (λ (k : ℕ). get_or piece i 0 ∷ drop k piece) (sym (add-one i))
+
+  -- the text has ended
+  pub begins_none : length text ≤ j → begins (drop i piece) (drop j text) ≡ false
+  unfolding begins
+  begins_none l = rw (piece_at, drop_of_length-le text {i = j} l)
+
+  module _ (l : j < length text) where
+    both : begins (drop i piece) (drop j text)
+        ≡ (eqb (get_or piece i 0) (get_or text j 0) && begins (drop (i + 1) piece) (drop (j + 1) text))
+    unfolding begins
+    both = rw (piece_at, drop-cons text j 0 l, add-one j)
+
+    pub begins_other : (get_or piece i 0 ≡ get_or text j 0 → ⊥) → begins (drop i piece) (drop j text) ≡ false
+    begins_other d = both ∙ rw (ne_eqb _ _ d)
+
+    pub begins_more : get_or piece i 0 ≡ get_or text j 0 → begins (drop i piece) (drop j text) ≡ begins (drop (i + 1) piece) (drop (j + 1) text)
+    begins_more e = both ∙ rw (eq-eqb _ _ e)
+
+pub begins_all : (piece text : List ℕ) (i j : ℕ) → length piece ≤ i → begins (drop i piece) (drop j text) ≡ true
 unfolding begins
-compared [] text = refl
-compared (c ∷ piece) [] = refl
-compared (c ∷ piece) (d ∷ text) = ap (λ (b : Bool). eqb c d && b) (compared piece text)
-
--- behind the end there is no more than at it
-drop_least : (text : List ℕ) (at : ℕ) → drop (min at (length text)) text ≡ drop at text
-drop_least text at = by (dec_le at (length text))
-  where
-    by : Dec (at ≤ length text) → drop (min at (length text)) text ≡ drop at text
-    by (yes h) = let same : min at (length text) ≡ at = omega arith in rw same
-    by (no h) =
-        let l = lt_of_not-le h in
-        drop_of_length-le text {i = min at (length text)} (omega arith) ∙ sym (drop_of_length-le text {i = at} (omega arith))
-
-pub begins_from : (text : List ℕ) (at n m : ℕ) (piece : List ℕ) → n ≡ min at (length text) → m ≡ length text - n
-    → pointwise eqb piece (take (length piece) (take m (drop n text))) ≡ begins piece (drop at text)
-begins_from text at n m piece e f =
-    let rest : take m (drop n text) ≡ drop n text = take_all m (drop n text) (omega (arith, length-drop n text)) in
-    rw rest (rw e (ap (λ (l : List ℕ). pointwise eqb piece (take (length piece) l)) (drop_least text at) ∙ compared piece (drop at text)))
+begins_all piece text i j h = rw (drop_of_length-le piece {i = i} h)
 
 -- ---- a piece put
 
