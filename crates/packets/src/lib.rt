@@ -24,20 +24,20 @@ pub fn etcs(v: u64) -> Start
     ensures { result ≡ etcs_start v }
 {
     match v {
-        Linking::ID => Linking::START,
-        Gradient::ID => Gradient::START,
-        Speed::ID => Speed::START,
-        Level::ID => Level::START,
-        Session::ID => Session::START,
-        National::ID => National::START,
-        Conditional::ID => Conditional::START,
-        Track::ID => Track::START,
-        Text::ID => Text::START,
-        Position::ID => Position::START,
-        Transition::ID => Transition::START,
-        Shunting::ID => Shunting::START,
-        Sight::ID => Sight::START,
-        Default::ID => Default::START,
+        Linking::ID => Linking::new().start,
+        Gradient::ID => Gradient::new().start,
+        Speed::ID => Speed::new().start,
+        Level::ID => Level::new().start,
+        Session::ID => Session::new().start,
+        National::ID => National::new().start,
+        Conditional::ID => Conditional::new().start,
+        Track::ID => Track::new().start,
+        Text::ID => Text::new().start,
+        Position::ID => Position::new().start,
+        Transition::ID => Transition::new().start,
+        Shunting::ID => Shunting::new().start,
+        Sight::ID => Sight::new().start,
+        Default::ID => Default::new().start,
         _ => Start { row: 0, head: 0 },
     }
 }
@@ -47,17 +47,20 @@ pub fn ctcs(v: u64) -> Start
     ensures { result ≡ ctcs_start v }
 {
     match v {
-        Circuits::ID => Circuits::START,
-        Restriction::ID => Restriction::START,
-        Reversing::ID => Reversing::START,
-        Turnout::ID => Turnout::START,
-        Stopping::ID => Stopping::START,
+        Circuits::ID => Circuits::new().start,
+        Restriction::ID => Restriction::new().start,
+        Reversing::ID => Reversing::new().start,
+        Turnout::ID => Turnout::new().start,
+        Stopping::ID => Stopping::new().start,
         _ => Start { row: 0, head: 0 },
     }
 }
 
 // ETCS-5, linking.
-pub struct Linking;
+#[derive(Clone, Copy)]
+pub struct Linking {
+    pub start: Start,
+}
 
 impl Linking {
     pub const ID: u64 = 5;
@@ -65,6 +68,12 @@ impl Linking {
     pub const HEAD: usize = 25;
 
     const ROW: usize = 12;
+
+    pub fn new() -> Self
+        ensures { result.start ≡ etcs_start 5 }
+    {
+        Self { start: Self::START }
+    }
 }
 
 impl Packet for Linking {
@@ -77,7 +86,10 @@ impl Packet for Linking {
 }
 
 // ETCS-21, gradient profile.
-pub struct Gradient;
+#[derive(Clone, Copy)]
+pub struct Gradient {
+    pub start: Start,
+}
 
 impl Gradient {
     pub const ID: u64 = 21;
@@ -85,6 +97,12 @@ impl Gradient {
     pub const HEAD: usize = 25;
 
     const ROW: usize = 32;
+
+    pub fn new() -> Self
+        ensures { result.start ≡ etcs_start 21 }
+    {
+        Self { start: Self::START }
+    }
 }
 
 impl Packet for Gradient {
@@ -97,7 +115,10 @@ impl Packet for Gradient {
 }
 
 // ETCS-27, static speed profile.
-pub struct Speed;
+#[derive(Clone, Copy)]
+pub struct Speed {
+    pub start: Start,
+}
 
 impl Speed {
     pub const ID: u64 = 27;
@@ -105,6 +126,12 @@ impl Speed {
     pub const HEAD: usize = 25;
 
     const ROW: usize = 44;
+
+    pub fn new() -> Self
+        ensures { result.start ≡ etcs_start 27 }
+    {
+        Self { start: Self::START }
+    }
 }
 
 impl Packet for Speed {
@@ -117,7 +144,10 @@ impl Packet for Speed {
 }
 
 // ETCS-41, level transition.
-pub struct Level;
+#[derive(Clone, Copy)]
+pub struct Level {
+    pub start: Start,
+}
 
 impl Level {
     pub const ID: u64 = 41;
@@ -125,6 +155,12 @@ impl Level {
     pub const HEAD: usize = 25;
 
     const ROW: usize = 64;
+
+    pub fn new() -> Self
+        ensures { result.start ≡ etcs_start 41 }
+    {
+        Self { start: Self::START }
+    }
 }
 
 impl Packet for Level {
@@ -137,7 +173,10 @@ impl Packet for Level {
 }
 
 // ETCS-42, session with a radio block centre.
-pub struct Session;
+#[derive(Clone, Copy)]
+pub struct Session {
+    pub start: Start,
+}
 
 impl Session {
     pub const ID: u64 = 42;
@@ -145,6 +184,12 @@ impl Session {
     pub const HEAD: usize = 23;
 
     const ROW: usize = 77;
+
+    pub fn new() -> Self
+        ensures { result.start ≡ etcs_start 42 }
+    {
+        Self { start: Self::START }
+    }
 }
 
 impl Packet for Session {
@@ -157,7 +202,10 @@ impl Packet for Session {
 }
 
 // ETCS-44, which holds a CTCS packet.
-pub struct National;
+#[derive(Clone, Copy)]
+pub struct National {
+    pub start: Start,
+}
 
 impl National {
     pub const ID: u64 = 44;
@@ -168,6 +216,12 @@ impl National {
 
     // The row in which the CTCS packet is due, behind those of Q_DIR and L_PACKET. No other kind has one.
     pub const INNER_ROW: usize = Self::ROW + 2;
+
+    pub fn new() -> Self
+        ensures { result.start ≡ etcs_start 44 }
+    {
+        Self { start: Self::START }
+    }
 }
 
 impl Packet for National {
@@ -180,7 +234,10 @@ impl Packet for National {
 }
 
 // ETCS-46, conditional level transition.
-pub struct Conditional;
+#[derive(Clone, Copy)]
+pub struct Conditional {
+    pub start: Start,
+}
 
 impl Conditional {
     pub const ID: u64 = 46;
@@ -188,6 +245,12 @@ impl Conditional {
     pub const HEAD: usize = 23;
 
     const ROW: usize = 88;
+
+    pub fn new() -> Self
+        ensures { result.start ≡ etcs_start 46 }
+    {
+        Self { start: Self::START }
+    }
 }
 
 impl Packet for Conditional {
@@ -200,7 +263,10 @@ impl Packet for Conditional {
 }
 
 // ETCS-68, track conditions.
-pub struct Track;
+#[derive(Clone, Copy)]
+pub struct Track {
+    pub start: Start,
+}
 
 impl Track {
     pub const ID: u64 = 68;
@@ -208,6 +274,12 @@ impl Track {
     pub const HEAD: usize = 25;
 
     const ROW: usize = 97;
+
+    pub fn new() -> Self
+        ensures { result.start ≡ etcs_start 68 }
+    {
+        Self { start: Self::START }
+    }
 }
 
 impl Packet for Track {
@@ -220,7 +292,10 @@ impl Packet for Track {
 }
 
 // ETCS-72, plain text.
-pub struct Text;
+#[derive(Clone, Copy)]
+pub struct Text {
+    pub start: Start,
+}
 
 impl Text {
     pub const ID: u64 = 72;
@@ -228,6 +303,12 @@ impl Text {
     pub const HEAD: usize = 25;
 
     const ROW: usize = 112;
+
+    pub fn new() -> Self
+        ensures { result.start ≡ etcs_start 72 }
+    {
+        Self { start: Self::START }
+    }
 }
 
 impl Packet for Text {
@@ -240,7 +321,10 @@ impl Packet for Text {
 }
 
 // ETCS-79, geographical position.
-pub struct Position;
+#[derive(Clone, Copy)]
+pub struct Position {
+    pub start: Start,
+}
 
 impl Position {
     pub const ID: u64 = 79;
@@ -248,6 +332,12 @@ impl Position {
     pub const HEAD: usize = 25;
 
     const ROW: usize = 131;
+
+    pub fn new() -> Self
+        ensures { result.start ≡ etcs_start 79 }
+    {
+        Self { start: Self::START }
+    }
 }
 
 impl Packet for Position {
@@ -260,7 +350,10 @@ impl Packet for Position {
 }
 
 // ETCS-131, transition between radio block centres.
-pub struct Transition;
+#[derive(Clone, Copy)]
+pub struct Transition {
+    pub start: Start,
+}
 
 impl Transition {
     pub const ID: u64 = 131;
@@ -268,6 +361,12 @@ impl Transition {
     pub const HEAD: usize = 25;
 
     const ROW: usize = 149;
+
+    pub fn new() -> Self
+        ensures { result.start ≡ etcs_start 131 }
+    {
+        Self { start: Self::START }
+    }
 }
 
 impl Packet for Transition {
@@ -280,7 +379,10 @@ impl Packet for Transition {
 }
 
 // ETCS-132, danger for shunting.
-pub struct Shunting;
+#[derive(Clone, Copy)]
+pub struct Shunting {
+    pub start: Start,
+}
 
 impl Shunting {
     pub const ID: u64 = 132;
@@ -288,6 +390,12 @@ impl Shunting {
     pub const HEAD: usize = 23;
 
     const ROW: usize = 158;
+
+    pub fn new() -> Self
+        ensures { result.start ≡ etcs_start 132 }
+    {
+        Self { start: Self::START }
+    }
 }
 
 impl Packet for Shunting {
@@ -300,7 +408,10 @@ impl Packet for Shunting {
 }
 
 // ETCS-137, stop if in staff responsible.
-pub struct Sight;
+#[derive(Clone, Copy)]
+pub struct Sight {
+    pub start: Start,
+}
 
 impl Sight {
     pub const ID: u64 = 137;
@@ -308,6 +419,12 @@ impl Sight {
     pub const HEAD: usize = 23;
 
     const ROW: usize = 162;
+
+    pub fn new() -> Self
+        ensures { result.start ≡ etcs_start 137 }
+    {
+        Self { start: Self::START }
+    }
 }
 
 impl Packet for Sight {
@@ -320,7 +437,10 @@ impl Packet for Sight {
 }
 
 // ETCS-254, default balise information.
-pub struct Default;
+#[derive(Clone, Copy)]
+pub struct Default {
+    pub start: Start,
+}
 
 impl Default {
     pub const ID: u64 = 254;
@@ -328,6 +448,12 @@ impl Default {
     pub const HEAD: usize = 23; // head A, and no field behind it
 
     const ROW: usize = 166;
+
+    pub fn new() -> Self
+        ensures { result.start ≡ etcs_start 254 }
+    {
+        Self { start: Self::START }
+    }
 }
 
 impl Packet for Default {
@@ -340,7 +466,10 @@ impl Packet for Default {
 }
 
 // CTCS-1, track circuits.
-pub struct Circuits;
+#[derive(Clone, Copy)]
+pub struct Circuits {
+    pub start: Start,
+}
 
 impl Circuits {
     pub const ID: u64 = 1;
@@ -348,6 +477,12 @@ impl Circuits {
     pub const HEAD: usize = 26;
 
     const ROW: usize = 169;
+
+    pub fn new() -> Self
+        ensures { result.start ≡ ctcs_start 1 }
+    {
+        Self { start: Self::START }
+    }
 }
 
 impl Packet for Circuits {
@@ -360,7 +495,10 @@ impl Packet for Circuits {
 }
 
 // CTCS-2, temporary speed restriction.
-pub struct Restriction;
+#[derive(Clone, Copy)]
+pub struct Restriction {
+    pub start: Start,
+}
 
 impl Restriction {
     pub const ID: u64 = 2;
@@ -368,6 +506,12 @@ impl Restriction {
     pub const HEAD: usize = 26;
 
     const ROW: usize = 182;
+
+    pub fn new() -> Self
+        ensures { result.start ≡ ctcs_start 2 }
+    {
+        Self { start: Self::START }
+    }
 }
 
 impl Packet for Restriction {
@@ -380,7 +524,10 @@ impl Packet for Restriction {
 }
 
 // CTCS-3, reversing area.
-pub struct Reversing;
+#[derive(Clone, Copy)]
+pub struct Reversing {
+    pub start: Start,
+}
 
 impl Reversing {
     pub const ID: u64 = 3;
@@ -388,6 +535,12 @@ impl Reversing {
     pub const HEAD: usize = 26;
 
     const ROW: usize = 197;
+
+    pub fn new() -> Self
+        ensures { result.start ≡ ctcs_start 3 }
+    {
+        Self { start: Self::START }
+    }
 }
 
 impl Packet for Reversing {
@@ -400,7 +553,10 @@ impl Packet for Reversing {
 }
 
 // CTCS-4, large-number turnout.
-pub struct Turnout;
+#[derive(Clone, Copy)]
+pub struct Turnout {
+    pub start: Start,
+}
 
 impl Turnout {
     pub const ID: u64 = 4;
@@ -408,6 +564,12 @@ impl Turnout {
     pub const HEAD: usize = 26;
 
     const ROW: usize = 203;
+
+    pub fn new() -> Self
+        ensures { result.start ≡ ctcs_start 4 }
+    {
+        Self { start: Self::START }
+    }
 }
 
 impl Packet for Turnout {
@@ -420,7 +582,10 @@ impl Packet for Turnout {
 }
 
 // CTCS-5, absolute stop.
-pub struct Stopping;
+#[derive(Clone, Copy)]
+pub struct Stopping {
+    pub start: Start,
+}
 
 impl Stopping {
     pub const ID: u64 = 5;
@@ -428,6 +593,12 @@ impl Stopping {
     pub const HEAD: usize = 24;
 
     const ROW: usize = 209;
+
+    pub fn new() -> Self
+        ensures { result.start ≡ ctcs_start 5 }
+    {
+        Self { start: Self::START }
+    }
 }
 
 impl Packet for Stopping {
