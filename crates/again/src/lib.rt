@@ -15,7 +15,10 @@ pub fn rewritten(s: &[u8], n: usize, run: &mut [u64], out: &mut [u8]) -> Result<
     if out.len() < 104 {
         return Err(Refusal::at_once(Kind::Room));
     }
-    let count = telegram::read(s, n, run)?;
+    let a = telegram::read(s, n, run);
+    let Ok(count) = a else {
+        return a;
+    };
     telegram::write(&run[..count], out)
 }
 
@@ -27,6 +30,9 @@ pub fn reread(values: &[u64], out: &mut [u8], run: &mut [u64]) -> Result<usize, 
     if run.len() < 830 {
         return Err(Refusal::at_once(Kind::Room));
     }
-    let n = telegram::write(values, out)?;
+    let a = telegram::write(values, out);
+    let Ok(n) = a else {
+        return a;
+    };
     telegram::read(&out[..bits::bytes_for(n)], n, run)
 }

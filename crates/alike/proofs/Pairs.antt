@@ -1,11 +1,10 @@
 -- Two telegrams compared by their normal forms, by what the check and the normaliser promise alone: no two telegrams have the same bytes. For any
 -- terms. Assumes nothing.
-use Rattle.std.specs.Prelude.{Ok, true, false, Err, Decides, MatchResult, IsErrAnd}
-use Rattle.std.proofs.lemmas.Result.{err_from_is_err_and}
+use Rattle.std.specs.Prelude.{Ok, true, false, Err, Decides}
 use mathlib.Core.Bool.{Bool, true, false}
 use mathlib.Core.List.{List}
 use mathlib.Core.Logic.{◌≢◌}
-use mathlib.Core.Path.{◌≡◌, refl, sym, ap, ◌∙◌, subst}
+use mathlib.Core.Path.{◌≡◌, refl, sym, ap, ◌∙◌}
 use Prim.Native.Nat.{ℕ, ◌≤◌, ◌<◌}
 use native.Mathlib.Omega.{arith}
 use borrow.Author.Tests.{le-leb, lt-leb}
@@ -26,8 +25,6 @@ use Rattle.alike.specs.Pairs.Pair.{both}
 use Rattle.normals.proofs.Forms.{form, form_telegram, bits_long, holds, front}
 use Rattle.format.specs.Refusals.{Answer}
 use Rattle.alike.specs.declared.PairError.TheVariants.{First, Second}
-use Rattle.alike.specs.declared.PairError.{PairError}
-use Rattle.std.specs.Prelude as code
 
 -- ---- lists compared
 
@@ -41,26 +38,6 @@ same_false bs cs d = by_test (same bs cs) refl
 -- a flag is not both
 unlike : {t : Bool} → t ≡ true → t ≡ false → ⊥
 unlike h e = let z : ◌≡◌ {A = ℕ} 0 1 = cc in omega arith
-
--- ---- which of the two `map_err` says is refused
-
-module _ (a : Answer) (m : code.Result ℕ PairError) (P : Refusal → PairError → Type 0) (h : MatchResult a (λ n. m ≡ Ok n) (λ r. IsErrAnd m (P r))) where
-  pub accepted_as : {n : ℕ} → m ≡ Ok n → a ≡ Ok n
-  accepted_as = by a h
-    where
-      by : (x : Answer) → MatchResult x (λ n. m ≡ Ok n) (λ r. IsErrAnd m (P r)) → {n : ℕ} → m ≡ Ok n → x ≡ Ok n
-      by (Ok k) g e = cc
-      by (Err r) g e = let p = err_from_is_err_and m g in let q = p.1 in let z : ◌≡◌ {A = ℕ} 0 1 = cc in absurd (omega arith)
-
-  pub refused_as : {e : PairError} → m ≡ Err e → (r : Refusal) × (a ≡ Err r) × P r e
-  refused_as = by a h
-    where
-      by : (x : Answer) → MatchResult x (λ n. m ≡ Ok n) (λ r. IsErrAnd m (P r)) → {e : PairError} → m ≡ Err e → (r : Refusal) × (x ≡ Err r) × P r e
-      by (Ok k) g e = let z : ◌≡◌ {A = ℕ} 0 1 = cc in absurd (omega arith)
-      by (Err r) g {e} i =
-          let p = err_from_is_err_and m g in
-          let one : p.0 ≡ e = let q = p.1 in cc in
-          (r, refl, subst (P r) one p.2)
 
 -- ---- one of the two is refused, or has no room
 

@@ -32,8 +32,12 @@ pub fn says_same(
     if y.len() < 104 {
         return Err(PairError::Second(Refusal::at_once(Kind::Room)));
     }
-    telegram::check(s, n).map_err(PairError::First)?;
-    telegram::check(t, m).map_err(PairError::Second)?;
+    if let Err(r) = telegram::check(s, n) {
+        return Err(PairError::First(r));
+    }
+    if let Err(r) = telegram::check(t, m) {
+        return Err(PairError::Second(r));
+    }
     compared(s, n, t, m, x, y)
 }
 

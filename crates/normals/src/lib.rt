@@ -15,6 +15,9 @@ pub fn renormalised(s: &[u8], n: usize, x: &mut [u8], y: &mut [u8]) -> Result<us
     if y.len() < 104 {
         return Err(Refusal::at_once(Kind::Room));
     }
-    let m = telegram::normalise(s, n, x)?;
+    let a = telegram::normalise(s, n, x);
+    let Ok(m) = a else {
+        return a;
+    };
     telegram::normalise(&x[..bits::bytes_for(m)], m, y)
 }

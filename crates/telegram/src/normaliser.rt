@@ -10,14 +10,18 @@ use copying::copy;
 use format::{Kind, Refusal};
 use retelling::patch;
 
-// Writes the normal form of a telegram into out, and answers its n. A refusal leaves out as it was.
+// Writes the normal form of a telegram into out, and answers its n. A refusal leaves out as it was. What the check refuses is handed on by `let .. else`, the
+// form that docs/RULES.md names: `again`, `normals` and `alike` have it too.
 pub fn normalise(s: &[u8], n: usize, out: &mut [u8]) -> Result<usize, Refusal>
     ensures { Normalise paper s.now n out.old result out.new }
 {
     if out.len() < 104 {
         return Err(Refusal::at_once(Kind::Room));
     }
-    let found = find(s, n)?;
+    let answer = find(s, n);
+    let Ok(found) = answer else {
+        return answer.map(|f| f.count);
+    };
     if found.metric {
         copy(s, out);
     } else {

@@ -1,5 +1,4 @@
 -- `again::rewritten` meets its contract: the values that were read are written as the bytes that they were read from. Assumes nothing.
-use Rattle.std.proofs.lemmas.Result.{err_from_is_err_and}
 use mathlib.Core.Path.{sym}
 use native.Mathlib.Omega.{arith}
 use lib.Seq.{length-take-le}
@@ -13,16 +12,15 @@ returns-then-out-lt104 c =
     let a = c.args in
     rw c.at_once.ensures (no_room_to_write paper a.s.now a.n a.run.now a.out.now (omega (arith, c.if-out-lt104.true)))
 
-pub returns-in_err-count : goal.returns-in_err-count
-returns-in_err-count c =
+pub returns-in_default : goal.returns-in_default
+returns-in_default c =
     let a = c.args in
-    let p = err_from_is_err_and c.from_residual.result c.from_residual.ensures.1 in
-    rw (p.1, p.2, ← c.in_err-count.was) (read_refused paper a.s.now a.n a.run.now a.out.now _ (omega arith) c.read.ensures c.in_err-count.was)
+    read_refused paper a.s.now a.n a.run.now a.out.now _ (omega arith) c.read-a.ensures c.in_default.is
 
 pub returns : goal.returns
 returns c =
     let a = c.args in
-    rewrites paper a.s.now a.n a.run.now a.out.now _ (omega arith) c.read.ensures c.in_ok-count.was
+    rewrites paper a.s.now a.n a.run.now a.out.now _ (omega arith) c.read-a.ensures c.in-Ok.is
     (below_known 256 a.s.now (λ i. (c.type_inv.s i).fits))
     c.write.ensures
 
@@ -31,9 +29,9 @@ returns c =
 pub slice_bounds-write-end : goal.slice_bounds-write-end
 slice_bounds-write-end c =
     let a = c.args in
-    lent paper a.s.now a.n a.run.now a.out.now _ (omega arith) c.read.ensures c.in_ok-count.was
+    lent paper a.s.now a.n a.run.now a.out.now _ (omega arith) c.read-a.ensures c.in-Ok.is
 
 pub slice_bounds-write-end-2 : goal.slice_bounds-write-end-2
 slice_bounds-write-end-2 c =
     let a = c.args in
-    sym (length-take-le _ _ (lent paper a.s.now a.n a.run.now a.out.now _ (omega arith) c.read.ensures c.in_ok-count.was))
+    sym (length-take-le _ _ (lent paper a.s.now a.n a.run.now a.out.now _ (omega arith) c.read-a.ensures c.in-Ok.is))
