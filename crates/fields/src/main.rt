@@ -3,7 +3,6 @@
 #![tactic(auto)]
 
 use bits::Cursor;
-use std::io;
 
 // The first n bits of nine bytes, in which a field of width bits begins at the bit at.
 const TAKES: [(usize, usize, usize); 18] = [
@@ -43,37 +42,37 @@ const PUTS: [(usize, usize, u64); 12] = [
     (0, 0, 1),
 ];
 
-fn main(rt: HostRuntime) -> io::Result<()> {
+// A write that fails changes nothing that follows: whoever compares what is printed sees what it lacks.
+fn main(rt: HostRuntime) {
     for (n, at, width) in TAKES {
-        take_row(rt, n, at, width)?;
+        take_row(rt, n, at, width);
     }
     for (at, width, value) in PUTS {
-        put_row(rt, at, width, value)?;
+        put_row(rt, at, width, value);
     }
-    Ok(())
 }
 
 // Takes the field of width bits at the bit at, of the first n bits of nine bytes.
-fn take_row(rt: HostRuntime, n: usize, at: usize, width: usize) -> io::Result<()> {
+fn take_row(rt: HostRuntime, n: usize, at: usize, width: usize) {
     let s = b"\x01\x23\x45\x67\x89\xab\xcd\xef\x12";
-    print!(rt; "take of {n} at {at} width {width}: ")?;
-    match (Cursor { at }).take(s, n, width) {
+    let _ = print!(rt; "take of {n} at {at} width {width}: ");
+    let _ = match (Cursor { at }).take(s, n, width) {
         Some((value, next)) => println!(rt; "{value}, next {}", next.at),
         None => println!(rt; "short"),
-    }
+    };
 }
 
 // Puts the field over nine bytes of 165, so that a neighbour that changes shows, whichever way.
-fn put_row(rt: HostRuntime, at: usize, width: usize, value: u64) -> io::Result<()> {
+fn put_row(rt: HostRuntime, at: usize, width: usize, value: u64) {
     let mut out = [165u8; 9];
     let answer = if store::put(&mut out, at, width, value) {
         "wrote"
     } else {
         "left "
     };
-    print!(rt; "put at {at} width {width} value {value}: {answer}")?;
+    let _ = print!(rt; "put at {at} width {width} value {value}: {answer}");
     for b in out {
-        print!(rt; " {b:02x}")?;
+        let _ = print!(rt; " {b:02x}");
     }
-    println!(rt)
+    let _ = println!(rt);
 }

@@ -5,115 +5,113 @@
 mod show;
 
 use show::{answer, changes, compared};
-use std::io;
 
 // What is lent holds these numbers, which no telegram below has.
 const VALUE: u64 = 9999;
 
 const BYTE: u8 = 165;
 
-fn main(rt: HostRuntime) -> io::Result<()> {
-    rewrites(rt)?;
-    rereads(rt)?;
-    renormalises(rt)?;
-    compares(rt)
+fn main(rt: HostRuntime) {
+    rewrites(rt);
+    rereads(rt);
+    renormalises(rt);
+    compares(rt);
 }
 
 // Makes a round trip with too little room in the one buffer, in the other, and with enough in both.
-fn in_each_room<A, B, F: Fn(&mut [A], &mut [B]) -> io::Result<()>>(
+fn in_each_room<A, B, F: Fn(&mut [A], &mut [B])>(
     few: &mut [A],
     first: &mut [A],
     less: &mut [B],
     second: &mut [B],
     trip: F,
-) -> io::Result<()>
+)
     requires { F.IsAlwaysCallable trip }
 {
-    trip(few, second)?;
-    trip(first, less)?;
-    trip(first, second)
+    trip(few, second);
+    trip(first, less);
+    trip(first, second);
 }
 
 // The telegram of a header and an end mark, with an unused bit set, of one bit more, and of no bits; the stop telegram.
-fn rewrites(rt: HostRuntime) -> io::Result<()> {
+fn rewrites(rt: HostRuntime) {
     let mark = b"\x90\x02\x7f\x81\x25\xdf\xff\xc0";
-    rewrite(rt, mark, 58)?;
-    rewrite(rt, b"\x90\x02\x7f\x81\x25\xdf\xff\xc1", 58)?;
-    rewrite(rt, mark, 59)?;
-    rewrite(rt, b"", usize::MAX)?;
+    rewrite(rt, mark, 58);
+    rewrite(rt, b"\x90\x02\x7f\x81\x25\xdf\xff\xc1", 58);
+    rewrite(rt, mark, 59);
+    rewrite(rt, b"", usize::MAX);
     rewrite(
         rt,
         b"\x90\x02\x7f\x81\x25\xdf\xcb\x10\x18\x01\x50\x0c\xa1\x10\x0c\x22\x50\x0c\x3f\xc0",
         154,
-    )
+    );
 }
 
-fn rewrite(rt: HostRuntime, s: &[u8], n: usize) -> io::Result<()> {
+fn rewrite(rt: HostRuntime, s: &[u8], n: usize) {
     let mut few = [VALUE; 829];
     let mut run = [VALUE; 830];
     let mut less = [BYTE; 103];
     let mut out = [BYTE; 104];
     in_each_room(&mut few, &mut run, &mut less, &mut out, |run, out| {
         let a = again::rewritten(s, n, run, out);
-        print!(rt; "rewritten of {n}, lent {} and {}:", run.len(), out.len())?;
-        answer(rt, a)?;
-        changes(rt, run, VALUE)?;
-        changes(rt, out, BYTE)
-    })
+        let _ = print!(rt; "rewritten of {n}, lent {} and {}:", run.len(), out.len());
+        answer(rt, a);
+        changes(rt, run, VALUE);
+        changes(rt, out, BYTE);
+    });
 }
 
 // The values of a header and an end mark, with another M_VERSION, with none behind the header, and with one more.
-fn rereads(rt: HostRuntime) -> io::Result<()> {
-    reread(rt, &[1, 16, 0, 0, 1, 0, 255, 9, 3007, 1, 255])?;
-    reread(rt, &[1, 33, 0, 0, 1, 0, 255, 9, 3007, 1, 255])?;
-    reread(rt, &[1, 16, 0, 0, 1, 0, 255, 9, 3007, 1])?;
-    reread(rt, &[1, 16, 0, 0, 1, 0, 255, 9, 3007, 1, 255, 0])
+fn rereads(rt: HostRuntime) {
+    reread(rt, &[1, 16, 0, 0, 1, 0, 255, 9, 3007, 1, 255]);
+    reread(rt, &[1, 33, 0, 0, 1, 0, 255, 9, 3007, 1, 255]);
+    reread(rt, &[1, 16, 0, 0, 1, 0, 255, 9, 3007, 1]);
+    reread(rt, &[1, 16, 0, 0, 1, 0, 255, 9, 3007, 1, 255, 0]);
 }
 
-fn reread(rt: HostRuntime, list: &[u64]) -> io::Result<()> {
+fn reread(rt: HostRuntime, list: &[u64]) {
     let mut less = [BYTE; 103];
     let mut out = [BYTE; 104];
     let mut few = [VALUE; 829];
     let mut run = [VALUE; 830];
     in_each_room(&mut less, &mut out, &mut few, &mut run, |out, run| {
         let a = again::reread(list, out, run);
-        print!(rt;
+        let _ = print!(rt;
             "reread of {}, lent {} and {}:",
             list.len(),
             out.len(),
             run.len()
-        )?;
-        answer(rt, a)?;
-        changes(rt, out, BYTE)?;
-        changes(rt, run, VALUE)
-    })
+        );
+        answer(rt, a);
+        changes(rt, out, BYTE);
+        changes(rt, run, VALUE);
+    });
 }
 
 // CTCS-3 at 10 m, a bit less, and a bit more.
-fn renormalises(rt: HostRuntime) -> io::Result<()> {
+fn renormalises(rt: HostRuntime) {
     let tens = b"\x90\x02\x7f\x81\x25\xdf\xcb\x10\x27\x80\xd0\x1c\x40\x0c\x80\xc8\x7f\x80";
     for n in [137, 136, 138] {
-        renormalise(rt, tens, n)?;
+        renormalise(rt, tens, n);
     }
-    Ok(())
 }
 
-fn renormalise(rt: HostRuntime, s: &[u8], n: usize) -> io::Result<()> {
+fn renormalise(rt: HostRuntime, s: &[u8], n: usize) {
     let mut few = [BYTE; 103];
     let mut x = [BYTE; 104];
     let mut less = [BYTE; 103];
     let mut y = [BYTE; 104];
     in_each_room(&mut few, &mut x, &mut less, &mut y, |x, y| {
         let a = normals::renormalised(s, n, x, y);
-        print!(rt; "renormalised of {n}, lent {} and {}:", x.len(), y.len())?;
-        answer(rt, a)?;
-        changes(rt, x, BYTE)?;
-        changes(rt, y, BYTE)
-    })
+        let _ = print!(rt; "renormalised of {n}, lent {} and {}:", x.len(), y.len());
+        answer(rt, a);
+        changes(rt, x, BYTE);
+        changes(rt, y, BYTE);
+    });
 }
 
 // 50 and 400 at 10 m beside 500 and 4000, and 501 and 4000, at 1 m, and beside no packet; the second with an unused bit set, the first, and both.
-fn compares(rt: HostRuntime) -> io::Result<()> {
+fn compares(rt: HostRuntime) {
     let tens = b"\x90\x02\x7f\x81\x25\xdf\xcb\x10\x27\x80\xd0\x1c\x40\x0c\x80\xc8\x7f\x80";
     let unclear = b"\x90\x02\x7f\x81\x25\xdf\xcb\x10\x27\x80\xd0\x1c\x20\x7d\x47\xd0\x7f\x81";
     compare(
@@ -121,33 +119,33 @@ fn compares(rt: HostRuntime) -> io::Result<()> {
         tens,
         b"\x90\x02\x7f\x81\x25\xdf\xcb\x10\x27\x80\xd0\x1c\x20\x7d\x07\xd0\x7f\x80",
         137,
-    )?;
+    );
     compare(
         rt,
         tens,
         b"\x90\x02\x7f\x81\x25\xdf\xcb\x10\x27\x80\xd0\x1c\x20\x7d\x47\xd0\x7f\x80",
         137,
-    )?;
-    compare(rt, tens, b"\x90\x02\x7f\x81\x25\xdf\xff\xc0", 58)?;
-    compare(rt, tens, unclear, 137)?;
-    compare(rt, unclear, tens, 137)?;
-    compare(rt, unclear, unclear, 137)
+    );
+    compare(rt, tens, b"\x90\x02\x7f\x81\x25\xdf\xff\xc0", 58);
+    compare(rt, tens, unclear, 137);
+    compare(rt, unclear, tens, 137);
+    compare(rt, unclear, unclear, 137);
 }
 
-fn compare(rt: HostRuntime, s: &[u8], t: &[u8], m: usize) -> io::Result<()> {
+fn compare(rt: HostRuntime, s: &[u8], t: &[u8], m: usize) {
     let mut few = [BYTE; 103];
     let mut x = [BYTE; 104];
     let mut less = [BYTE; 103];
     let mut y = [BYTE; 104];
     in_each_room(&mut few, &mut x, &mut less, &mut y, |x, y| {
         let a = alike::says_same(s, 137, t, m, x, y);
-        print!(rt;
+        let _ = print!(rt;
             "says_same of 137 and {m}, lent {} and {}:",
             x.len(),
             y.len()
-        )?;
-        compared(rt, a)?;
-        changes(rt, x, BYTE)?;
-        changes(rt, y, BYTE)
-    })
+        );
+        compared(rt, a);
+        changes(rt, x, BYTE);
+        changes(rt, y, BYTE);
+    });
 }
