@@ -2,7 +2,7 @@
 use mathlib.Core.Bool.{Bool, true, false, not, ◌&&◌}
 use mathlib.Core.List.{List, [], ◌∷◌, ◌++◌}
 use mathlib.Core.Path.{◌≡◌, refl, sym, ap, ◌∙◌}
-use Prim.Native.Nat.{ℕ, suc, ◌+◌, ◌-◌, ◌≤◌, ◌<◌}
+use Prim.Native.Nat.{ℕ, zero, suc, ◌+◌, ◌-◌, ◌≤◌, ◌<◌}
 use native.Mathlib.Numerals.{add-one}
 use native.Mathlib.Omega.{arith}
 use borrow.Author.Tests.{eq-eqb, ne_eqb, eqb-true}
@@ -23,18 +23,21 @@ use Rattle.group_laws.proofs.Agreeing.{telegrams_count}
 abbrev Telegrams : Type 0
 Telegrams = List (List Entry)
 
--- ---- each N_PIG once, from the lowest up
+-- ---- each N_PIG once, from the highest down
 
-module _ (k c : ℕ) (ts : Telegrams) (f : c ≡ length (standing k ts)) where
-  pub once_on : once k ts ≡ true → c ≡ 1 → once (k + 1) ts ≡ true
-  once_on e i = ap (λ (x : ℕ). once x ts) (add-one k) ∙ rw (eq-eqb (length (standing k ts)) 1 (sym f ∙ i)) e
-
-  pub once_fails : (n : ℕ) → k < n → (c ≡ 1 → ⊥) → false ≡ once n ts
-  once_fails n h i = by_test (once n ts) refl
+module _ (n k c : ℕ) (ts : Telegrams) (h : 0 < k) (e : once n ts ≡ once k ts) (f : c ≡ length (standing (k - 1) ts)) where
+  once_turn : once n ts ≡ (eqb c 1 && once (k - 1) ts)
+  once_turn = by_number k h e f
     where
-      by_test : (b : Bool) → once n ts ≡ b → false ≡ b
-      by_test true e = absurd (i (f ∙ once_at n k ts e h))
-      by_test false e = refl
+      by_number : (j : ℕ) → 0 < j → once n ts ≡ once j ts → c ≡ length (standing (j - 1) ts) → once n ts ≡ (eqb c 1 && once (j - 1) ts)
+      by_number zero l d i = absurd (omega arith)
+      by_number (suc j) l d i = let q : suc j - 1 ≡ j = omega arith in rw q (d ∙ ap (λ (x : ℕ). eqb x 1 && once j ts) (sym (i ∙ ap (λ (x : ℕ). length (standing x ts)) q)))
+
+  pub once_on : c ≡ 1 → once n ts ≡ once (k - 1) ts
+  once_on i = once_turn ∙ rw (eq-eqb c 1 i)
+
+  pub once_fails : (c ≡ 1 → ⊥) → false ≡ once n ts
+  once_fails i = sym (once_turn ∙ rw (ne_eqb c 1 i))
 
 -- ---- the one with an N_PIG
 

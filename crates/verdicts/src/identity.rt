@@ -39,11 +39,11 @@ impl<'a> Accepted<'a> {
         true
     }
 
-    // Whether each N_PIG below their number stands once.
+    // Whether each N_PIG below their number stands once, the highest first: where one is missing it is mostly that.
     fn each_once(&self) -> bool
         ensures { result ≡ once (length self.now.telegrams.ns.now) (telegrams_of self.now.telegrams.bytes.now self.now.telegrams.ns.now) }
     {
-        for k in 0..self.telegrams.ns.len() {
+        for k in (0..self.telegrams.ns.len()).rev() {
             if self.telegrams.tally(k as u64) != 1 {
                 return false;
             }
