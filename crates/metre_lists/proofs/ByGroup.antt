@@ -117,3 +117,14 @@ module _ (s out : List ℕ) (q x : ℕ) (puts : Bool) where
         → after ≡ cond puts (list_put s (run_put l s q) (run_end l s) x out) out → Listed h r after
     run_listed l i e f =
         listed i (e ∙ ap (cond puts true) (whole_laid l s q x)) (f ∙ ap (λ (o : List ℕ). cond puts o out) (put_laid l s q x out))
+
+-- ---- by the tests
+
+module _ (c puts whole : Bool) (told out : List ℕ) where
+  -- there is no list
+  pub none_asked : c ≡ false → (false ≡ (c && cond puts true whole)) × (out ≡ cond (c && puts) told out)
+  none_asked h = rw h (refl, refl)
+
+  pub is_asked : c ≡ true → {r : Bool} {after : List ℕ} → r ≡ cond puts true whole → after ≡ cond puts told out
+      → (r ≡ (c && cond puts true whole)) × (after ≡ cond (c && puts) told out)
+  is_asked h e f = rw h (e, f)

@@ -111,6 +111,11 @@ pub some_told : (c : Bool) (n : ℕ) {m : ℕ} {r : Option ℕ} → r ≡ cond c
 some_told true n h i = (refl, cc)
 some_told false n h i = absurd cc
 
+-- one of two numbers, neither of which is 0
+pub some_of : (c : Bool) (m n : ℕ) → 0 < m → 0 < n → 0 < cond c m n
+some_of true m n h i = h
+some_of false m n h i = i
+
 -- ---- room
 
 module _ (s out : List ℕ) where
