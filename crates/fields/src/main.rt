@@ -3,6 +3,7 @@
 #![tactic(auto)]
 
 use bits::Cursor;
+use std::fmt::Display;
 
 // The first n bits of nine bytes, in which a field of width bits begins at the bit at.
 const TAKES: [(usize, usize, usize); 18] = [
@@ -42,7 +43,6 @@ const PUTS: [(usize, usize, u64); 12] = [
     (0, 0, 1),
 ];
 
-// A write that fails changes nothing that follows: whoever compares what is printed sees what it lacks.
 fn main(rt: HostRuntime) {
     for (n, at, width) in TAKES {
         take_row(rt, n, at, width);
@@ -55,24 +55,43 @@ fn main(rt: HostRuntime) {
 // Takes the field of width bits at the bit at, of the first n bits of nine bytes.
 fn take_row(rt: HostRuntime, n: usize, at: usize, width: usize) {
     let s = b"\x01\x23\x45\x67\x89\xab\xcd\xef\x12";
-    let _ = print!(rt; "take of {n} at {at} width {width}: ");
-    let _ = match (Cursor { at }).take(s, n, width) {
-        Some((value, next)) => println!(rt; "{value}, next {}", next.at),
-        None => println!(rt; "short"),
-    };
+    word(rt, "take of ", n);
+    word(rt, " at ", at);
+    word(rt, " width ", width);
+    match (Cursor { at }).take(s, n, width) {
+        Some((value, next)) => {
+            word(rt, ": ", value);
+            word(rt, ", next ", next.at);
+        }
+        None => say(rt, ": short"),
+    }
+    say(rt, "\n");
 }
 
 // Puts the field over nine bytes of 165, so that a neighbour that changes shows, whichever way.
 fn put_row(rt: HostRuntime, at: usize, width: usize, value: u64) {
     let mut out = [165u8; 9];
-    let answer = if store::put(&mut out, at, width, value) {
-        "wrote"
+    word(rt, "put at ", at);
+    word(rt, " width ", width);
+    word(rt, " value ", value);
+    if store::put(&mut out, at, width, value) {
+        say(rt, ": wrote");
     } else {
-        "left "
-    };
-    let _ = print!(rt; "put at {at} width {width} value {value}: {answer}");
-    for b in out {
-        let _ = print!(rt; " {b:02x}");
+        say(rt, ": left ");
     }
-    let _ = println!(rt);
+    for b in out {
+        say(rt, " ");
+        say(rt, format_args!("{b:02x}"));
+    }
+    say(rt, "\n");
+}
+
+fn word<N: Display + Drop>(rt: HostRuntime, text: &str, n: N) {
+    say(rt, text);
+    say(rt, n);
+}
+
+// Writes a piece by itself. One that cannot be written changes nothing that follows: whoever compares what is printed sees what it lacks.
+fn say<D: Display + Drop>(rt: HostRuntime, piece: D) {
+    let _ = rt.print(piece);
 }

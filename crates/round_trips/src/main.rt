@@ -4,7 +4,7 @@
 
 mod show;
 
-use show::{answer, changes, compared};
+use show::{answer, asked, changes, compared};
 
 // What is lent holds these numbers, which no telegram below has.
 const VALUE: u64 = 9999;
@@ -54,7 +54,7 @@ fn rewrite(rt: HostRuntime, s: &[u8], n: usize) {
     let mut out = [BYTE; 104];
     in_each_room(&mut few, &mut run, &mut less, &mut out, |run, out| {
         let a = again::rewritten(s, n, run, out);
-        let _ = print!(rt; "rewritten of {n}, lent {} and {}:", run.len(), out.len());
+        asked(rt, "rewritten of ", n, run.len(), out.len());
         answer(rt, a);
         changes(rt, run, VALUE);
         changes(rt, out, BYTE);
@@ -76,12 +76,7 @@ fn reread(rt: HostRuntime, list: &[u64]) {
     let mut run = [VALUE; 830];
     in_each_room(&mut less, &mut out, &mut few, &mut run, |out, run| {
         let a = again::reread(list, out, run);
-        let _ = print!(rt;
-            "reread of {}, lent {} and {}:",
-            list.len(),
-            out.len(),
-            run.len()
-        );
+        asked(rt, "reread of ", list.len(), out.len(), run.len());
         answer(rt, a);
         changes(rt, out, BYTE);
         changes(rt, run, VALUE);
@@ -103,7 +98,7 @@ fn renormalise(rt: HostRuntime, s: &[u8], n: usize) {
     let mut y = [BYTE; 104];
     in_each_room(&mut few, &mut x, &mut less, &mut y, |x, y| {
         let a = normals::renormalised(s, n, x, y);
-        let _ = print!(rt; "renormalised of {n}, lent {} and {}:", x.len(), y.len());
+        asked(rt, "renormalised of ", n, x.len(), y.len());
         answer(rt, a);
         changes(rt, x, BYTE);
         changes(rt, y, BYTE);
@@ -139,11 +134,7 @@ fn compare(rt: HostRuntime, s: &[u8], t: &[u8], m: usize) {
     let mut y = [BYTE; 104];
     in_each_room(&mut few, &mut x, &mut less, &mut y, |x, y| {
         let a = alike::says_same(s, 137, t, m, x, y);
-        let _ = print!(rt;
-            "says_same of 137 and {m}, lent {} and {}:",
-            x.len(),
-            y.len()
-        );
+        asked(rt, "says_same of 137 and ", m, x.len(), y.len());
         compared(rt, a);
         changes(rt, x, BYTE);
         changes(rt, y, BYTE);

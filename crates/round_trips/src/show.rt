@@ -1,38 +1,61 @@
-// What a round trip answers and leaves, as text. A write that fails changes nothing that follows: whoever compares what is printed sees what it lacks.
+// What is asked of a round trip, and what it answers and leaves, as text.
 use alike::PairError;
 use format::Refusal;
 use std::fmt::Display;
 
+// What is asked, and how much is lent.
+pub(crate) fn asked(rt: HostRuntime, name: &str, n: usize, first: usize, second: usize) {
+    say(rt, name);
+    say(rt, n);
+    say(rt, ", lent ");
+    say(rt, first);
+    say(rt, " and ");
+    say(rt, second);
+    say(rt, ":");
+}
+
 pub(crate) fn answer(rt: HostRuntime, a: Result<usize, Refusal>) {
     match a {
         Ok(n) => {
-            let _ = println!(rt; " ok {n}");
+            say(rt, " ok ");
+            say(rt, n);
+            say(rt, "\n");
         }
-        Err(r) => refused(rt, "", r),
+        Err(r) => refused(rt, " refused ", r),
     }
 }
 
 pub(crate) fn compared(rt: HostRuntime, a: Result<bool, PairError>) {
     match a {
-        Ok(same) => {
-            let said = if same { "same" } else { "other" };
-            let _ = println!(rt; " {said}");
-        }
-        Err(PairError::First(r)) => refused(rt, " first", r),
-        Err(PairError::Second(r)) => refused(rt, " second", r),
+        Ok(true) => say(rt, " same\n"),
+        Ok(false) => say(rt, " other\n"),
+        Err(PairError::First(r)) => refused(rt, " first refused ", r),
+        Err(PairError::Second(r)) => refused(rt, " second refused ", r),
     }
 }
 
-fn refused(rt: HostRuntime, which: &str, r: Refusal) {
-    let _ = println!(rt; "{which} refused {} {}", refusals::number(r.kind), r.place);
+fn refused(rt: HostRuntime, text: &str, r: Refusal) {
+    say(rt, text);
+    say(rt, refusals::number(r.kind));
+    say(rt, " ");
+    say(rt, r.place);
+    say(rt, "\n");
 }
 
 // What is not as it was lent, each behind its place.
-pub(crate) fn changes<T: Copy + PartialEq + Display>(rt: HostRuntime, now: &[T], lent: T) {
+pub(crate) fn changes<T: Copy + PartialEq + Display + Drop>(rt: HostRuntime, now: &[T], lent: T) {
     for (i, v) in now.iter().enumerate() {
         if *v != lent {
-            let _ = print!(rt; " {i}={v}");
+            say(rt, " ");
+            say(rt, i);
+            say(rt, "=");
+            say(rt, *v);
         }
     }
-    let _ = println!(rt);
+    say(rt, "\n");
+}
+
+// Writes a piece by itself. One that cannot be written changes nothing that follows: whoever compares what is printed sees what it lacks.
+fn say<D: Display + Drop>(rt: HostRuntime, piece: D) {
+    let _ = rt.print(piece);
 }
